@@ -1,3 +1,3 @@
 pub mod Clients
-pub mod Tool
+pub mod Lines
 pub mod Whole

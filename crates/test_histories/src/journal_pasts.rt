@@ -1,6 +1,7 @@
 //! What a journal says of the clients' transactions: those that ended, in the order in which they ended, with the ALTER at its
 //! place, and how far each client is in its script.
 
+mod became;
 mod history_steps;
 mod pasts;
 mod reached;

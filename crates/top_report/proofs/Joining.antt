@@ -8,7 +8,7 @@ use Rattle.server_model.specs.Entries.{is_cut, same_actor}
 use Rattle.plan_data.specs.declared.runs.ActorRun.{ActorRun}
 use Rattle.top_report.specs.declared.turns.OpenRun.{OpenRun}
 use Rattle.top_report.specs.Turns.{joined, order_text, runs_of, turns_taken}
-use Rattle.top_report.proofs.ClientLines.Actors.{own, same_is}
+use Rattle.run_actors.proofs.SameActors.{own, same_is}
 use Rattle.top_report.specs.Runs.{open_after, printed_at, printed_before, run_with, runs_after, runs_open, spaced_run}
 
 abbrev run : Actor → ℕ → ActorRun

@@ -8,7 +8,7 @@ use Rattle.plan_data.specs.declared.runs.ActorRun.{ActorRun}
 use Rattle.plan_orders.specs.Words.{is_empty, is_space, spaced_words}
 use Rattle.plan_orders.specs.TurnOrder.Turns.{next_word, runs_from, turns_of}
 use Rattle.top_report.specs.Turns.{joined, order_text, run_text, runs_of}
-use Rattle.top_report.proofs.ClientLines.Actors.{same_is}
+use Rattle.run_actors.proofs.SameActors.{same_is}
 use Rattle.law_texts.specs.TurnOrders.{IsOf}
 use Rattle.law_texts.proofs.TurnOrders.Words.{IsRun, dark_run, first_part, long_run, one_part, run_read}
 

@@ -1,22 +1,17 @@
 -- The history behind one turn more.
 use Rattle.std.proofs.Common.{◌≡◌, ℕ, ◌+◌, ◌<◌, List, [], ◌∷◌, ◌++◌, map, length, take, get_or, Option, refl, sym, ap, ap₂, ◌∙◌, subst}
-use Rattle.std.proofs.lemmas.List.{map-append, take_more}
+use Rattle.std.proofs.lemmas.List.{map-append}
 use Rattle.std.specs.Prelude.{option_to_list}
 use Rattle.server_model.specs.declared.entry.Entry.{Entry}
-use Rattle.server_model.specs.Along.{gathered-more}
 use Rattle.plan_data.specs.PlanData.{PlanData}
 use Rattle.tool_program.specs.JournalWords.Clients.{Reached}
 use Rattle.tool_program.specs.JournalWords.Histories.{HistoryItem, entry_adds, history}
-use Rattle.top_report.specs.declared.client_lines.renames.Renaming.{Renaming}
-use Rattle.top_report.specs.ClientLines.Walks.{AreRenaming, renaming_after}
-use Rattle.top_report.proofs.ClientLines.Ending.{renaming_more}
+use Rattle.run_actors.specs.declared.renaming.Renaming.{Renaming}
+use Rattle.run_actors.specs.Renamings.{AreRenaming, renaming_after}
+use Rattle.run_actors.proofs.Renamings.{renaming_more}
+use Rattle.top_report.proofs.ClientLines.Ending.{history_more, turns_more}
 use Rattle.test_histories.specs.declared.journal_pasts.pasts.PastItem.{PastItem}
 use Rattle.test_histories.specs.JournalPasts.Walks.{AreReached, item_as}
-
--- the history, with what the turn adds
-history_more : (plan : PlanData) (before : List Entry) (entry : Entry) → history plan (before ++ entry ∷ []) ≡ history plan before ++ entry_adds plan before entry
-unfolding history
-history_more plan before entry = gathered-more (entry_adds plan) [] before entry
 
 -- the items that were found, with those that the turn adds
 pub items_more : (plan : PlanData) (before : List Entry) (entry : Entry) (items added : List PastItem) → map item_as items ≡ history plan before → map item_as added ≡ entry_adds plan before entry → map item_as (items ++ added) ≡ history plan (before ++ entry ∷ [])
@@ -29,10 +24,6 @@ items_more plan before entry items added so_far more =
 pub history_begins : (plan : PlanData) → [] ≡ history plan []
 unfolding history
 history_begins plan = refl
-
--- the turns so far, and one more
-turns_more : (journal : List Entry) (place : ℕ) (entry : Entry) → place < length journal → entry ≡ get_or journal place entry → take (place + 1) journal ≡ take place journal ++ entry ∷ []
-turns_more journal place entry within at = take_more journal place entry within ∙ ap (λ (next : Entry). take place journal ++ next ∷ []) (sym at)
 
 -- what was found of the turns so far is what they say
 pub record SoFar (plan : PlanData) (before : List Entry) (items : List PastItem) (clients : List Reached) (renaming : Renaming) : Type 0 where

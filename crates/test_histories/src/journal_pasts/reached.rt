@@ -6,6 +6,7 @@ ghost use Rattle.tool_program.specs.JournalWords.Clients as clients;
 ghost use Rattle.tool_program.specs.JournalWords.Histories.{breaks, client_ends, line_ends};
 ghost use Rattle.test_histories.specs.JournalPasts.Walks.{ended_items};
 
+use crate::journal_pasts::became::{Became, after_line, became_in};
 use crate::journal_pasts::pasts::Past;
 use crate::journal_pasts::replies::heard_reply;
 use base_script::{ScriptLine, ScriptWord};
@@ -15,7 +16,6 @@ use server_model::{EndedTxn, Entry, Mark, Replies, Reply, TxnEnd, TxnLine, TxnLi
 use std::alloc::{AllocError, Global};
 use std::marker::Model;
 use std::mem;
-use top_report::client_lines::{Became, after_line, became_in};
 
 /// How far a client is in its script, as its turns tell.
 #[derive(Drop)]

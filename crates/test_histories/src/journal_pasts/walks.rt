@@ -7,7 +7,7 @@ ghost use Rattle.server_model.specs.Entries.{is_client};
 ghost use Rattle.plan_data.specs.PlanData.{PlanData};
 ghost use Rattle.tool_program.specs.JournalWords.Clients.{new_client};
 ghost use Rattle.tool_program.specs.JournalWords.Histories.{entry_adds};
-ghost use Rattle.top_report.specs.ClientLines.Walks.{AreRenaming};
+ghost use Rattle.run_actors.specs.Renamings.{AreRenaming};
 ghost use Rattle.test_histories.specs.JournalPasts.Walks.{AreReached, WasWalked, item_as};
 
 use crate::journal_pasts::pasts::{PastItem, PastItems};
@@ -15,10 +15,9 @@ use crate::journal_pasts::reached::Reached;
 use base_script::{Actor, Script};
 use base_values::Sequence;
 use plan_data::Plan;
-use run_actors::is_alter_turn;
+use run_actors::{Renaming, is_alter_turn};
 use server_model::Entry;
 use std::alloc::{AllocError, Global};
-use top_report::client_lines::Renaming;
 
 /// What a journal says.
 #[derive(Drop)]
@@ -41,7 +40,7 @@ fn clients_of<'a>(alloc: Global, scripts: &'a [Script]) -> Result<Vec<Reached<'a
 }
 
 /// What a turn of the tool's adds.
-#[tactic(auto, using(crate::proofs::JournalPasts::Tool::adds_alter, crate::proofs::JournalPasts::Tool::adds_nothing))]
+#[tactic(auto, using(run_actors::proofs::AlterTurns::adds_alter, run_actors::proofs::AlterTurns::adds_nothing))]
 fn tool_turn(plan: &Plan, renaming: Renaming, entry: &Entry) -> Option<PastItem>
     requires { is_client entry.now.actor ≡ false }
     ensures { (before : List Entry) → AreRenaming plan.now before renaming → map item_as (option_to_list result) ≡ entry_adds plan.now before entry.now }

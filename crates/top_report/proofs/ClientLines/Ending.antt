@@ -1,34 +1,32 @@
 -- The history, as the code finds it.
-use Rattle.std.proofs.Common.{◌≡◌, ℕ, zero, suc, ◌+◌, ◌-◌, ◌==◌, Bool, true, false, cond, List, [], ◌∷◌, ◌++◌, map, Option, Some, None, is_some, option_map, refl, sym, ◌∙◌, ap, ap₂, subst, append-nil, append_assoc, arith, true≢false, codes}
+use Rattle.std.proofs.Common.{◌≡◌, ℕ, zero, suc, ◌+◌, ◌-◌, ◌<◌, ◌==◌, Bool, true, false, cond, List, [], ◌∷◌, ◌++◌, map, length, take, get_or, Option, Some, None, is_some, option_map, refl, sym, ◌∙◌, ap, ap₂, subst, append-nil, append_assoc, arith}
 use Rattle.std.proofs.lemmas.Bool.Decides.{nat_tests}
 use Rattle.std.proofs.lemmas.Grind.{flat_map-append}
-use Rattle.std.proofs.lemmas.List.Sums.{fold-append}
+use Rattle.std.proofs.lemmas.List.{take_more}
 use Rattle.std.proofs.lemmas.Option.{slice_get-map}
-use Rattle.std.specs.List.{flat_map, slice_get}
+use Rattle.std.specs.List.{flat_map, list_any, slice_get}
 use Rattle.base_script.specs.declared.actor.Actor.{Actor}
-use Rattle.base_script.specs.declared.actor.Actor.TheVariants.{Op, Insp, Copy, Apply, Lock, Ren, Client}
+use Rattle.base_script.specs.declared.actor.Actor.TheVariants.{Client}
 use Rattle.base_script.specs.declared.script.ScriptLine.{ScriptLine}
-use Rattle.server_model.specs.declared.request.Request.{Request}
-use Rattle.server_model.specs.declared.answer.Answer.{Answer}
-use Rattle.server_model.specs.declared.answer.Answer.TheVariants as answers
-use Rattle.server_model.specs.declared.entry.Asked.{Asked}
-use Rattle.server_model.specs.declared.entry.Asked.TheVariants.{Call, Poll, Command, Cut}
 use Rattle.server_model.specs.declared.entry.Entry.{Entry}
 use Rattle.server_model.specs.declared.transaction.Mark.{Mark}
 use Rattle.server_model.specs.declared.transaction.Reply.{Reply}
 use Rattle.server_model.specs.declared.transaction.TxnEnd.{TxnEnd}
-use Rattle.server_model.specs.Along.{gathered}
+use Rattle.server_model.specs.Along.{gathered-more}
 use Rattle.server_model.specs.Entries.{is_client, same_actor}
 use Rattle.plan_data.specs.PlanData.{PlanData}
-use Rattle.tool_program.specs.JournalWords.Clients.{Became, Nothing, Waits, Marked, Broken, Reached, became, client_after, client_at, ends_with, is_inside, number_of, script_of, with_draw}
-use Rattle.tool_program.specs.JournalWords.Histories.{about, adds, alters, asked_about, client_ends, ends_so, entry_adds, history, line_ends, renames_away, request_waiting, answer_in, waits_after, waits_in}
-use Rattle.top_report.specs.declared.client_lines.renames.Renaming.{Renaming}
-use Rattle.top_report.specs.ClientLines.Pasts.{alter_text, history_line, item_text, past_text}
-use Rattle.top_report.specs.ClientLines.Walks.{AreRenaming, Walk, added_by, became_now, client_added, ended_text, ends_now, history_from, is_done, is_open, new_walk, nobody_renames, number_in, renames_at, renames_after, renames_in, renaming_after, tool_added, walk_after, walk_at, walk_of, walks_after, with_renaming}
-use Rattle.top_report.proofs.ClientLines.Actors.{same_is}
+use Rattle.tool_program.specs.JournalWords.Clients.{Became, Nothing, Waits, Marked, Broken, Reached, became, client_at, ends_with, is_inside, number_of, script_of, with_draw}
+use Rattle.tool_program.specs.JournalWords.Histories.{HistoryItem, adds, client_ends, ends_so, entry_adds, history, is_alter, line_ends}
+use Rattle.run_actors.specs.declared.renaming.Renaming.{Renaming}
+use Rattle.run_actors.specs.ClientTurns.ActorStates.{line_outcome_as}
+use Rattle.run_actors.specs.Renamings.{AreRenaming, nobody_renames, renaming_after}
+use Rattle.run_actors.proofs.AlterTurns.{adds_where, alter_where}
+use Rattle.run_actors.proofs.Renamings.{renaming_begins, renaming_more}
+use Rattle.top_report.specs.ClientLines.Pasts.{alter_text, item_text, past_text}
+use Rattle.top_report.specs.ClientLines.Walks.{Walk, client_added, ended_text, ends_now, is_open, new_walk, number_in, outcome_now, walk_after, walk_at, walk_of, walks_after}
 use Rattle.top_report.proofs.ClientLines.Strangers.{stranger_ends}
 use Rattle.top_report.proofs.ClientLines.Walking.{at_begin, number_is, open_is, other_turn, own_turn}
-use Rattle.top_report.proofs.ClientLines.Numbered.{IsWalk, became_same, ended_same, walk_on, walk_self}
+use Rattle.top_report.proofs.ClientLines.Numbered.{IsWalk, ended_same, walk_on, walk_self}
 
 -- ---- what a client's turn ends
 
@@ -46,7 +44,7 @@ broken_text : (number : ℕ) (client : Reached) (b : Bool) → is_inside client.
 broken_text number client true is = rw is (append-nil (past_text number client.begun))
 broken_text number client false is = rw is refl
 
-ended_is : (number : ℕ) (client : Reached) (what : Became) → flat_map item_text (client_ends number client what) ≡ ended_text number (walk_of client) what
+ended_is : (number : ℕ) (client : Reached) (what : Became) → flat_map item_text (client_ends number client what) ≡ ended_text number (walk_of client) (line_outcome_as what)
 ended_is number client Nothing = refl
 ended_is number client Waits = refl
 ended_is number client (Marked mark reply) = marked_text number client mark reply client.left
@@ -56,7 +54,7 @@ ended_is number client Broken = broken_text number client (is_inside client.line
 
 -- the walk of a client behind a turn
 abbrev passed : ℕ → Entry → Walk → Walk
-passed number entry walk = cond (same_actor entry.actor (Client number)) (walk_after (became_now walk entry) walk) walk
+passed number entry walk = cond (same_actor entry.actor (Client number)) (walk_after (outcome_now walk entry) walk) walk
 
 passed_at : (first : ℕ) (entry : Entry) (walks : List Walk) (place : ℕ) → slice_get (walks_after first entry walks) place ≡ option_map (passed (first + place) entry) (slice_get walks place)
 unfolding walks_after
@@ -81,9 +79,7 @@ AreWalks plan before walks = (number : ℕ) → Tracks (walk_at number walks) (s
 
 passed_is : (plan : PlanData) (before : List Entry) (entry : Entry) (number : ℕ) (walk : Walk) (b : Bool) → same_actor entry.actor (Client number) ≡ b → IsWalk walk (client_at plan before number) → IsWalk (passed number entry walk) (client_at plan (before ++ entry ∷ []) number)
 passed_is plan before entry number walk true is own =
-    let client = client_at plan before number in
-    rw is (subst (IsWalk (walk_after (became_now walk entry) walk)) (sym (own_turn plan before entry number is))
-    (subst (λ (b : Became). IsWalk (walk_after b walk) (client_after (became client entry) (with_draw entry.draw client))) (sym (became_same walk client entry own)) (walk_on (became client entry) walk client entry.draw own)))
+    rw is (subst (IsWalk (walk_after (outcome_now walk entry) walk)) (sym (own_turn plan before entry number is)) (walk_on walk (client_at plan before number) entry own))
 passed_is plan before entry number walk false is own = rw is (subst (IsWalk walk) (sym (other_turn plan before entry number is)) own)
 
 tracks_on : (plan : PlanData) (before : List Entry) (entry : Entry) (number : ℕ) (walk : Option Walk) (script : Option (List ScriptLine)) → Tracks walk script (client_at plan before number) → Tracks (option_map (passed number entry) walk) script (client_at plan (before ++ entry ∷ []) number)
@@ -116,232 +112,79 @@ client_text plan before entry number None (Some script) is own = absurd own
 client_text plan before entry number (Some walk) None is own = absurd own
 client_text plan before entry number (Some walk) (Some script) is own =
     let client = client_at plan before number in
-    ended_is number (with_draw entry.draw client) (became client entry)
-    ∙ ended_same number (became client entry) walk client entry.draw own
-    ∙ ap (ended_text number walk) (sym (became_same walk client entry own))
+    ended_is number (with_draw entry.draw client) (became client entry) ∙ ended_same number walk client entry own
 
--- ---- the RENAME
+-- ---- the ALTER
 
-abbrev no_text : List ℕ
-no_text = []
+item_where : (b : Bool) → flat_map item_text (alter_where b) ≡ cond b alter_text []
+item_where true = append-nil alter_text
+item_where false = refl
 
-done_text : (name : List ℕ) (plan : PlanData) (request : Option Request) (chosen : Option Answer) → name ≡ plan.table → flat_map item_text (alters plan request chosen) ≡ cond (renames_away name request) (cond (is_done chosen) alter_text []) []
-done_text name plan request chosen named = go chosen
+-- what a turn of the tool's adds
+tool_text : (plan : PlanData) (before : List Entry) (entry : Entry) (b : Bool) → is_client entry.actor ≡ false → b ≡ list_any is_alter (entry_adds plan before entry) → flat_map item_text (entry_adds plan before entry) ≡ cond b alter_text []
+tool_text plan before entry b tool is = sym (ap (flat_map item_text) (adds_where plan before entry b tool is)) ∙ item_where b
+
+pub alter_added : (plan : PlanData) (before : List Entry) (entry : Entry) → is_client entry.actor ≡ false → true ≡ list_any is_alter (entry_adds plan before entry) → flat_map item_text (entry_adds plan before entry) ≡ alter_text
+alter_added plan before entry tool is = tool_text plan before entry true tool is
+
+pub nothing_added : (plan : PlanData) (before : List Entry) (entry : Entry) → is_client entry.actor ≡ false → false ≡ list_any is_alter (entry_adds plan before entry) → flat_map item_text (entry_adds plan before entry) ≡ []
+nothing_added plan before entry tool is = tool_text plan before entry false tool is
+
+-- ---- the history, turn by turn
+
+-- what a turn adds, by what a client's adds and what the tool's adds
+turn_text : (plan : PlanData) (before : List Entry) (entry : Entry) (walks : List Walk) (renaming : Renaming) (into after : List ℕ) → AreWalks plan before walks → AreRenaming plan before renaming
+    → ((number : ℕ) → entry.actor ≡ Client number → after ≡ into ++ client_added number (walk_at number walks) entry)
+    → ((before : List Entry) → is_client entry.actor ≡ false → AreRenaming plan before renaming → after ≡ into ++ flat_map item_text (entry_adds plan before entry))
+    → after ≡ into ++ flat_map item_text (entry_adds plan before entry)
+turn_text plan before entry walks renaming into after are renames clients tool = go entry.actor refl
   where
-    away : (b : Bool) → renames_away plan.table request ≡ b → (count : ℕ) → flat_map item_text (alters plan request (Some (answers.Ok count))) ≡ cond (renames_away name request) alter_text []
-    away true is count = rw (named, is) (append-nil alter_text)
-    away false is count = rw (named, is) refl
+    go : (actor : Actor) → entry.actor ≡ actor → after ≡ into ++ flat_map item_text (entry_adds plan before entry)
+    go (Client number) is =
+        clients number is
+        ∙ ap (λ (text : List ℕ). into ++ text) (sym (client_text plan before entry number (walk_at number walks) (script_of number plan) refl (are number)))
+        ∙ ap (λ (actor : Actor). into ++ flat_map item_text (adds plan before entry actor)) (sym is)
+    go actor is = tool before (ap is_client is) renames
 
-    none : (b : Bool) → no_text ≡ cond b no_text no_text
-    none true = refl
-    none false = refl
+pub history_more : (plan : PlanData) (before : List Entry) (entry : Entry) → history plan (before ++ entry ∷ []) ≡ history plan before ++ entry_adds plan before entry
+unfolding history
+history_more plan before entry = gathered-more (entry_adds plan) [] before entry
 
-    go : (chosen : Option Answer) → flat_map item_text (alters plan request chosen) ≡ cond (renames_away name request) (cond (is_done chosen) alter_text []) []
-    go None = none (renames_away name request)
-    go (Some (answers.Ok count)) = away (renames_away plan.table request) refl count
-    go (Some (answers.Rows rows)) = none (renames_away name request)
-    go (Some (answers.Keys keys end)) = none (renames_away name request)
-    go (Some (answers.Ends range)) = none (renames_away name request)
-    go (Some (answers.End key)) = none (renames_away name request)
-    go (Some (answers.At count)) = none (renames_away name request)
-    go (Some (answers.Events events next)) = none (renames_away name request)
-    go (Some (answers.Tables tables)) = none (renames_away name request)
-    go (Some (answers.Waiting waiters)) = none (renames_away name request)
-    go (Some (answers.Refused number column)) = none (renames_away name request)
-    go (Some (answers.Waits by)) = none (renames_away name request)
-    go (Some (answers.TimedOut waited)) = none (renames_away name request)
-    go (Some answers.Lost) = none (renames_away name request)
+-- the turns so far, and one more
+pub turns_more : (journal : List Entry) (place : ℕ) (entry : Entry) → place < length journal → entry ≡ get_or journal place entry → take (place + 1) journal ≡ take place journal ++ entry ∷ []
+turns_more journal place entry within at = take_more journal place entry within ∙ ap (λ (next : Entry). take place journal ++ next ∷ []) (sym at)
 
-about_is : (name : List ℕ) (asked : Asked) (waiting : Option Request) → renames_away name (asked_about asked waiting) ≡ renames_in name (renames_away name waiting) asked
-about_is name (Call request) waiting = refl
-about_is name Poll waiting = refl
-about_is name (Command word) waiting = refl
-about_is name Cut waiting = refl
+-- *So far*: what is printed after these turns is their history, and what is kept is how far they left each client and who waits
+-- with the RENAME
+pub record SoFar (plan : PlanData) (before : List Entry) (walks : List Walk) (renaming : Renaming) (first into : List ℕ) : Type 0 where
+  pub walks_are : AreWalks plan before walks
+  pub renaming_are : AreRenaming plan before renaming
+  pub text : into ≡ first ++ flat_map item_text (history plan before)
 
-behind_is : (name : List ℕ) (asked : Asked) (answer : Answer) (old : Option Request) → renames_away name (waits_after asked answer old) ≡ renames_after name (renames_away name old) asked answer
-behind_is name (Call request) (answers.Ok count) old = refl
-behind_is name (Call request) (answers.Rows rows) old = refl
-behind_is name (Call request) (answers.Keys keys end) old = refl
-behind_is name (Call request) (answers.Ends range) old = refl
-behind_is name (Call request) (answers.End key) old = refl
-behind_is name (Call request) (answers.At count) old = refl
-behind_is name (Call request) (answers.Events events next) old = refl
-behind_is name (Call request) (answers.Tables tables) old = refl
-behind_is name (Call request) (answers.Waiting waiters) old = refl
-behind_is name (Call request) (answers.Refused number column) old = refl
-behind_is name (Call request) (answers.Waits by) old = refl
-behind_is name (Call request) (answers.TimedOut waited) old = refl
-behind_is name (Call request) answers.Lost old = refl
-behind_is name Poll (answers.Ok count) old = refl
-behind_is name Poll (answers.Rows rows) old = refl
-behind_is name Poll (answers.Keys keys end) old = refl
-behind_is name Poll (answers.Ends range) old = refl
-behind_is name Poll (answers.End key) old = refl
-behind_is name Poll (answers.At count) old = refl
-behind_is name Poll (answers.Events events next) old = refl
-behind_is name Poll (answers.Tables tables) old = refl
-behind_is name Poll (answers.Waiting waiters) old = refl
-behind_is name Poll (answers.Refused number column) old = refl
-behind_is name Poll (answers.Waits by) old = refl
-behind_is name Poll (answers.TimedOut waited) old = refl
-behind_is name Poll answers.Lost old = refl
-behind_is name (Command word) (answers.Ok count) old = refl
-behind_is name (Command word) (answers.Rows rows) old = refl
-behind_is name (Command word) (answers.Keys keys end) old = refl
-behind_is name (Command word) (answers.Ends range) old = refl
-behind_is name (Command word) (answers.End key) old = refl
-behind_is name (Command word) (answers.At count) old = refl
-behind_is name (Command word) (answers.Events events next) old = refl
-behind_is name (Command word) (answers.Tables tables) old = refl
-behind_is name (Command word) (answers.Waiting waiters) old = refl
-behind_is name (Command word) (answers.Refused number column) old = refl
-behind_is name (Command word) (answers.Waits by) old = refl
-behind_is name (Command word) (answers.TimedOut waited) old = refl
-behind_is name (Command word) answers.Lost old = refl
-behind_is name Cut (answers.Ok count) old = refl
-behind_is name Cut (answers.Rows rows) old = refl
-behind_is name Cut (answers.Keys keys end) old = refl
-behind_is name Cut (answers.Ends range) old = refl
-behind_is name Cut (answers.End key) old = refl
-behind_is name Cut (answers.At count) old = refl
-behind_is name Cut (answers.Events events next) old = refl
-behind_is name Cut (answers.Tables tables) old = refl
-behind_is name Cut (answers.Waiting waiters) old = refl
-behind_is name Cut (answers.Refused number column) old = refl
-behind_is name Cut (answers.Waits by) old = refl
-behind_is name Cut (answers.TimedOut waited) old = refl
-behind_is name Cut answers.Lost old = refl
+pub begins : (plan : PlanData) (walks : List Walk) (renaming : Renaming) (first : List ℕ) → walks ≡ map new_walk plan.clients → renaming ≡ nobody_renames → SoFar plan [] walks renaming first first
+unfolding history
+begins plan walks renaming first one two = record {
+  walks_are = subst (AreWalks plan []) (sym one) (walks_begin plan);
+  renaming_are = subst (AreRenaming plan []) (sym two) (renaming_begins plan);
+  text = sym (append-nil first);
+}
 
-set_at : (actor other : Actor) (now : Bool) (renaming : Renaming) → is_client other ≡ false → renames_at (with_renaming actor now renaming) other ≡ cond (same_actor actor other) now (renames_at renaming other)
-set_at Op Op now renaming tool = refl
-set_at Op Insp now renaming tool = refl
-set_at Op Copy now renaming tool = refl
-set_at Op Apply now renaming tool = refl
-set_at Op Lock now renaming tool = refl
-set_at Op Ren now renaming tool = refl
-set_at Op (Client number) now renaming tool = absurd (true≢false tool)
-set_at Insp Op now renaming tool = refl
-set_at Insp Insp now renaming tool = refl
-set_at Insp Copy now renaming tool = refl
-set_at Insp Apply now renaming tool = refl
-set_at Insp Lock now renaming tool = refl
-set_at Insp Ren now renaming tool = refl
-set_at Insp (Client number) now renaming tool = absurd (true≢false tool)
-set_at Copy Op now renaming tool = refl
-set_at Copy Insp now renaming tool = refl
-set_at Copy Copy now renaming tool = refl
-set_at Copy Apply now renaming tool = refl
-set_at Copy Lock now renaming tool = refl
-set_at Copy Ren now renaming tool = refl
-set_at Copy (Client number) now renaming tool = absurd (true≢false tool)
-set_at Apply Op now renaming tool = refl
-set_at Apply Insp now renaming tool = refl
-set_at Apply Copy now renaming tool = refl
-set_at Apply Apply now renaming tool = refl
-set_at Apply Lock now renaming tool = refl
-set_at Apply Ren now renaming tool = refl
-set_at Apply (Client number) now renaming tool = absurd (true≢false tool)
-set_at Lock Op now renaming tool = refl
-set_at Lock Insp now renaming tool = refl
-set_at Lock Copy now renaming tool = refl
-set_at Lock Apply now renaming tool = refl
-set_at Lock Lock now renaming tool = refl
-set_at Lock Ren now renaming tool = refl
-set_at Lock (Client number) now renaming tool = absurd (true≢false tool)
-set_at Ren Op now renaming tool = refl
-set_at Ren Insp now renaming tool = refl
-set_at Ren Copy now renaming tool = refl
-set_at Ren Apply now renaming tool = refl
-set_at Ren Lock now renaming tool = refl
-set_at Ren Ren now renaming tool = refl
-set_at Ren (Client number) now renaming tool = absurd (true≢false tool)
-set_at (Client number) Op now renaming tool = refl
-set_at (Client number) Insp now renaming tool = refl
-set_at (Client number) Copy now renaming tool = refl
-set_at (Client number) Apply now renaming tool = refl
-set_at (Client number) Lock now renaming tool = refl
-set_at (Client number) Ren now renaming tool = refl
-set_at (Client number) (Client other) now renaming tool = absurd (true≢false tool)
-
-waiting_more : (before : List Entry) (entry : Entry) (actor : Actor) → request_waiting (before ++ entry ∷ []) actor ≡ waits_in actor (request_waiting before actor) entry
-unfolding request_waiting
-waiting_more before entry actor = fold-append (waits_in actor) None before (entry ∷ [])
-
-waits_own : (before : List Entry) (entry : Entry) (actor : Actor) → same_actor entry.actor actor ≡ true → request_waiting (before ++ entry ∷ []) actor ≡ waits_after entry.asked entry.answer (request_waiting before actor)
-waits_own before entry actor same = waiting_more before entry actor ∙ rw same refl
-
-waits_other : (before : List Entry) (entry : Entry) (actor : Actor) → same_actor entry.actor actor ≡ false → request_waiting (before ++ entry ∷ []) actor ≡ request_waiting before actor
-waits_other before entry actor same = waiting_more before entry actor ∙ rw same refl
-
--- who waits with it behind one turn more
-pub renaming_more : (plan : PlanData) (before : List Entry) (entry : Entry) (renaming : Renaming) → AreRenaming plan before renaming → AreRenaming plan (before ++ entry ∷ []) (renaming_after plan.table entry renaming)
-renaming_more plan before entry renaming are = λ actor tool. go actor tool (same_actor entry.actor actor) refl
-  where
-    go : (actor : Actor) → is_client actor ≡ false → (b : Bool) → same_actor entry.actor actor ≡ b → renames_at (renaming_after plan.table entry renaming) actor ≡ renames_away plan.table (request_waiting (before ++ entry ∷ []) actor)
-    go actor tool true same =
-        let own : entry.actor ≡ actor = same_is entry.actor actor same in
-        let old : renames_at renaming entry.actor ≡ renames_away plan.table (request_waiting before actor) = ap (renames_at renaming) own ∙ are actor tool in
-        set_at entry.actor actor (renames_after plan.table (renames_at renaming entry.actor) entry.asked entry.answer) renaming tool
-        ∙ rw same (ap (λ (waiting : Bool). renames_after plan.table waiting entry.asked entry.answer) old)
-        ∙ sym (behind_is plan.table entry.asked entry.answer (request_waiting before actor))
-        ∙ sym (ap (renames_away plan.table) (waits_own before entry actor same))
-    go actor tool false same =
-        set_at entry.actor actor (renames_after plan.table (renames_at renaming entry.actor) entry.asked entry.answer) renaming tool
-        ∙ rw same (are actor tool)
-        ∙ sym (ap (renames_away plan.table) (waits_other before entry actor same))
-
--- before the first turn nobody does
-pub renaming_begins : (plan : PlanData) → AreRenaming plan [] nobody_renames
-unfolding request_waiting
-renaming_begins plan = go
-  where
-    go : (actor : Actor) → is_client actor ≡ false → renames_at nobody_renames actor ≡ renames_away plan.table (request_waiting [] actor)
-    go Op tool = refl
-    go Insp tool = refl
-    go Copy tool = refl
-    go Apply tool = refl
-    go Lock tool = refl
-    go Ren tool = refl
-    go (Client number) tool = absurd (true≢false tool)
-
-tool_text : (plan : PlanData) (before : List Entry) (entry : Entry) (waiting : Bool) → waiting ≡ renames_away plan.table (request_waiting before entry.actor)
-    → flat_map item_text (alters plan (about before entry) (answer_in entry.asked entry.side entry.answer entry.missed)) ≡ tool_added plan.table waiting entry
-tool_text plan before entry waiting is =
-    done_text plan.table plan (about before entry) (answer_in entry.asked entry.side entry.answer entry.missed) refl
-    ∙ ap (λ (b : Bool). cond b (cond (is_done (answer_in entry.asked entry.side entry.answer entry.missed)) alter_text []) [])
-    (about_is plan.table entry.asked (request_waiting before entry.actor) ∙ ap (λ (b : Bool). renames_in plan.table b entry.asked) (sym is))
-
-turn_text : (plan : PlanData) (before : List Entry) (entry : Entry) (walks : List Walk) (renaming : Renaming) (actor : Actor) → entry.actor ≡ actor → AreWalks plan before walks → AreRenaming plan before renaming
-    → flat_map item_text (adds plan before entry actor) ≡ added_by plan.table walks renaming entry actor
-turn_text plan before entry walks renaming Op is are renames = tool_text plan before entry (renames_at renaming Op) (renames Op refl ∙ ap (λ (actor : Actor). renames_away plan.table (request_waiting before actor)) (sym is))
-turn_text plan before entry walks renaming Insp is are renames = tool_text plan before entry (renames_at renaming Insp) (renames Insp refl ∙ ap (λ (actor : Actor). renames_away plan.table (request_waiting before actor)) (sym is))
-turn_text plan before entry walks renaming Copy is are renames = tool_text plan before entry (renames_at renaming Copy) (renames Copy refl ∙ ap (λ (actor : Actor). renames_away plan.table (request_waiting before actor)) (sym is))
-turn_text plan before entry walks renaming Apply is are renames = tool_text plan before entry (renames_at renaming Apply) (renames Apply refl ∙ ap (λ (actor : Actor). renames_away plan.table (request_waiting before actor)) (sym is))
-turn_text plan before entry walks renaming Lock is are renames = tool_text plan before entry (renames_at renaming Lock) (renames Lock refl ∙ ap (λ (actor : Actor). renames_away plan.table (request_waiting before actor)) (sym is))
-turn_text plan before entry walks renaming Ren is are renames = tool_text plan before entry (renames_at renaming Ren) (renames Ren refl ∙ ap (λ (actor : Actor). renames_away plan.table (request_waiting before actor)) (sym is))
-turn_text plan before entry walks renaming (Client number) is are renames =
-    client_text plan before entry number (walk_at number walks) (script_of number plan) refl (are number)
-
-found : (plan : PlanData) (before entries : List Entry) (walks : List Walk) (renaming : Renaming) → AreWalks plan before walks → AreRenaming plan before renaming
-    → flat_map item_text (gathered (entry_adds plan) before entries) ≡ history_from plan.table walks renaming entries
-unfolding history_from
-found plan before [] walks renaming are renames = refl
-found plan before (entry ∷ entries) walks renaming are renames =
-    flat_map-append item_text (entry_adds plan before entry) (gathered (entry_adds plan) (before ++ entry ∷ []) entries)
-    ∙ ap₂ (λ (xs ys : List ℕ). xs ++ ys) (turn_text plan before entry walks renaming entry.actor refl are renames)
-    (found plan (before ++ entry ∷ []) entries (walks_after 1 entry walks) (renaming_after plan.table entry renaming) (walks_more plan before entry walks are) (renaming_more plan before entry renaming renames))
-
--- The history's text is the one that the walk through the journal finds.
-pub history_found : (plan : PlanData) (journal : List Entry) → history_line plan journal ≡ codes "history" ++ history_from plan.table (map new_walk plan.clients) nobody_renames journal ++ codes "\n"
-unfolding history_line history
-history_found plan journal = ap (λ (text : List ℕ). codes "history" ++ text ++ codes "\n") (found plan [] journal (map new_walk plan.clients) nobody_renames (walks_begin plan) (renaming_begins plan))
-
-pub history_text : (plan : PlanData) (journal : List Entry) (into first middle last : List ℕ) → first ≡ into ++ codes "history" → middle ≡ first ++ history_from plan.table (map new_walk plan.clients) nobody_renames journal
-    → last ≡ middle ++ codes "\n" → last ≡ into ++ history_line plan journal
-history_text plan journal into first middle last one two three =
-    let text = history_from plan.table (map new_walk plan.clients) nobody_renames journal in
-    three
-    ∙ ap (λ (xs : List ℕ). xs ++ codes "\n") (two ∙ ap (λ (xs : List ℕ). xs ++ text) one)
-    ∙ append_assoc (into ++ codes "history") text (codes "\n")
-    ∙ append_assoc into (codes "history") (text ++ codes "\n")
-    ∙ ap (λ (xs : List ℕ). into ++ xs) (sym (history_found plan journal))
+pub next : (plan : PlanData) (journal : List Entry) (place : ℕ) (entry : Entry) (walks passed : List Walk) (renaming after : Renaming) (first into added : List ℕ) → place < length journal → entry ≡ get_or journal place entry
+    → ((number : ℕ) → entry.actor ≡ Client number → added ≡ into ++ client_added number (walk_at number walks) entry)
+    → ((before : List Entry) → is_client entry.actor ≡ false → AreRenaming plan before renaming → added ≡ into ++ flat_map item_text (entry_adds plan before entry))
+    → passed ≡ walks_after 1 entry walks → after ≡ renaming_after plan.table entry renaming → SoFar plan (take place journal) walks renaming first into → SoFar plan (take (place + 1) journal) passed after first added
+next plan journal place entry walks passed renaming after first into added within at clients tool moved renamed is =
+    let before = take place journal in
+    let so_far = flat_map item_text (history plan before) in
+    let more = flat_map item_text (entry_adds plan before entry) in
+    let now : SoFar plan (before ++ entry ∷ []) passed after first added = record {
+      walks_are = subst (AreWalks plan (before ++ entry ∷ [])) (sym moved) (walks_more plan before entry walks is.walks_are);
+      renaming_are = subst (AreRenaming plan (before ++ entry ∷ [])) (sym renamed) (renaming_more plan before entry renaming is.renaming_are);
+      text =
+          turn_text plan before entry walks renaming into added is.walks_are is.renaming_are clients tool
+          ∙ ap (λ (text : List ℕ). text ++ more) is.text
+          ∙ append_assoc first so_far more
+          ∙ ap (λ (text : List ℕ). first ++ text) (sym (flat_map-append item_text (history plan before) (entry_adds plan before entry)))
+          ∙ ap (λ (items : List HistoryItem). first ++ flat_map item_text items) (sym (history_more plan before entry));
+    } in
+    subst (λ (turns : List Entry). SoFar plan turns passed after first added) (sym (turns_more journal place entry within at)) now

@@ -1,16 +1,16 @@
 -- A client's replies, as the walk through the journal finds them.
-use Rattle.std.proofs.Common.{◌≡◌, ℕ, Bool, true, false, List, [], ◌∷◌, ◌++◌, Option, Some, refl, sym, ◌∙◌, ap, ap₂, subst}
+use Rattle.std.proofs.Common.{◌≡◌, ℕ, Bool, true, false, List, [], ◌∷◌, ◌++◌, Some, refl, sym, ap₂, subst}
 use Rattle.base_script.specs.declared.actor.Actor.TheVariants.{Client}
 use Rattle.base_script.specs.declared.script.ScriptLine.{ScriptLine}
 use Rattle.server_model.specs.declared.entry.Entry.{Entry}
 use Rattle.server_model.specs.Along.{gathered}
 use Rattle.server_model.specs.Entries.{same_actor}
 use Rattle.plan_data.specs.PlanData.{PlanData}
-use Rattle.tool_program.specs.JournalWords.Clients.{Became, Reached, became, client_at, script_of}
-use Rattle.tool_program.specs.JournalWords.Histories.{NumberedReply, replied, replied_in, replies_of}
-use Rattle.top_report.specs.ClientLines.Walks.{Walk, became_now, new_walk, replied_by, replies_from, walk_after}
+use Rattle.tool_program.specs.JournalWords.Clients.{client_at, script_of}
+use Rattle.tool_program.specs.JournalWords.Histories.{NumberedReply, replied_in, replies_of}
+use Rattle.top_report.specs.ClientLines.Walks.{Walk, new_walk, outcome_now, replies_from, walk_after}
 use Rattle.top_report.proofs.ClientLines.Walking.{at_begin, other_turn, own_turn}
-use Rattle.top_report.proofs.ClientLines.Numbered.{IsWalk, became_same, replied_same, walk_on, walk_self}
+use Rattle.top_report.proofs.ClientLines.Numbered.{IsWalk, replied_same, walk_on, walk_self}
 
 walk_further : (plan : PlanData) (number : ℕ) (before : List Entry) (entry : Entry) (entries : List Entry) (walk : Walk) (b : Bool) → same_actor entry.actor (Client number) ≡ b → IsWalk walk (client_at plan before number)
     → ((next : Walk) → IsWalk next (client_at plan (before ++ entry ∷ []) number) → gathered (replied_in plan number) (before ++ entry ∷ []) entries ≡ replies_from number next entries)
@@ -18,10 +18,9 @@ walk_further : (plan : PlanData) (number : ℕ) (before : List Entry) (entry : E
 unfolding replies_from
 walk_further plan number before entry entries walk true is own others =
     let client = client_at plan before number in
-    let what : became client entry ≡ became_now walk entry = sym (became_same walk client entry own) in
-    let next : IsWalk (walk_after (became_now walk entry) walk) (client_at plan (before ++ entry ∷ []) number) =
-    subst (λ (b : Became). IsWalk (walk_after b walk) (client_at plan (before ++ entry ∷ []) number)) what (subst (IsWalk (walk_after (became client entry) walk)) (sym (own_turn plan before entry number is)) (walk_on (became client entry) walk client entry.draw own)) in
-    rw is (ap₂ (λ (xs ys : List NumberedReply). xs ++ ys) (replied_same (became client entry) walk client entry.draw own ∙ ap (replied_by walk entry.draw) what) (others (walk_after (became_now walk entry) walk) next))
+    let next : IsWalk (walk_after (outcome_now walk entry) walk) (client_at plan (before ++ entry ∷ []) number) =
+    subst (IsWalk (walk_after (outcome_now walk entry) walk)) (sym (own_turn plan before entry number is)) (walk_on walk client entry own) in
+    rw is (ap₂ (λ (xs ys : List NumberedReply). xs ++ ys) (replied_same walk client entry own) (others (walk_after (outcome_now walk entry) walk) next))
 walk_further plan number before entry entries walk false is own others =
     rw is (others walk (subst (IsWalk walk) (sym (other_turn plan before entry number is)) own))
 

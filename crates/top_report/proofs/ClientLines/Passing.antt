@@ -6,7 +6,7 @@ use Rattle.base_script.specs.declared.actor.Actor.{Actor}
 use Rattle.base_script.specs.declared.actor.Actor.TheVariants.{Op, Insp, Copy, Apply, Lock, Ren, Client}
 use Rattle.server_model.specs.declared.entry.Entry.{Entry}
 use Rattle.server_model.specs.Entries.{is_client, same_actor}
-use Rattle.top_report.specs.ClientLines.Walks.{Walk, became_now, walk_after, walks_after}
+use Rattle.top_report.specs.ClientLines.Walks.{Walk, outcome_now, walk_after, walks_after}
 
 -- a turn of another leaves them
 pub others_pass : (walks : List Walk) (first : ℕ) (entry : Entry) → ((number : ℕ) → same_actor entry.actor (Client number) ≡ false) → walks_after first entry walks ≡ walks
@@ -51,13 +51,13 @@ others_stay (walk ∷ walks) first client entry is (inr above) =
 
 -- a turn of a client moves its walk alone
 pub one_passes : (walks : List Walk) (first client place : ℕ) (entry : Entry) (walk : Walk) → entry.actor ≡ Client client → first + place ≡ client → place < length walks → walk ≡ get_or walks place walk
-    → slice_set walks place (walk_after (became_now walk entry) walk) ≡ walks_after first entry walks
+    → slice_set walks place (walk_after (outcome_now walk entry) walk) ≡ walks_after first entry walks
 unfolding walks_after
 one_passes [] first client place entry walk is at within there = absurd (omega arith)
 one_passes (first_walk ∷ walks) first client zero entry walk is at within there =
     let same : (client == first) ≡ true = grind (arith, nat_tests) in
     let own : same_actor entry.actor (Client first) ≡ true = rw is same in
-    rw own (ap₂ (λ (one : Walk) (more : List Walk). one ∷ more) (ap (λ (w : Walk). walk_after (became_now w entry) w) there) (sym (others_stay walks (first + 1) client entry is (inl (omega (arith, at))))))
+    rw own (ap₂ (λ (one : Walk) (more : List Walk). one ∷ more) (ap (λ (w : Walk). walk_after (outcome_now w entry) w) there) (sym (others_stay walks (first + 1) client entry is (inl (omega (arith, at))))))
 one_passes (first_walk ∷ walks) first client (suc place) entry walk is at within there =
     let next : first + 1 + place ≡ client = omega (arith, at) in
     let differ : (client == first) ≡ false = grind (arith, nat_tests) in

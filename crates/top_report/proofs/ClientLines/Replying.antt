@@ -1,5 +1,5 @@
 -- Replies, as they are printed.
-use Rattle.std.proofs.Common.{◌≡◌, ◌∙◌, ℕ, ◌+◌, ◌-◌, List, [], ◌∷◌, ◌++◌, Some, sym, ap, append-nil, append_assoc}
+use Rattle.std.proofs.Common.{◌≡◌, ◌∙◌, ℕ, List, [], ◌∷◌, ◌++◌, Some, sym, ap, append-nil, append_assoc}
 use Rattle.std.specs.List.{flat_map}
 use Rattle.base_script.specs.declared.script.ScriptLine.{ScriptLine}
 use Rattle.server_model.specs.declared.entry.Entry.{Entry}

@@ -1,7 +1,7 @@
 -- How far a client is in its script, as the code keeps it.
-use Rattle.std.proofs.Common.{◌≡◌, ℕ, suc, ◌+◌, ◌-◌, ◌<◌, ◌≤◌, ◌^◌, ◌==◌, Bool, true, false, not, cond, List, [], ◌∷◌, ◌++◌, length, take, drop, get_or, Option, Some, None, is_some, refl, sym, ◌∙◌, ap, ap₂, arith}
+use Rattle.std.proofs.Common.{◌≡◌, ℕ, suc, ◌+◌, ◌<◌, ◌≤◌, ◌^◌, ◌==◌, Bool, true, false, not, cond, List, [], ◌∷◌, ◌++◌, length, Option, Some, None, is_some, refl, sym, ◌∙◌, ap, arith}
 use Rattle.std.proofs.lemmas.Bool.Decides.{nat_tests}
-use Rattle.std.proofs.lemmas.List.{drop_all, drop_more, length-append, take_rest}
+use Rattle.std.proofs.lemmas.List.{length-append}
 use Rattle.std.proofs.lemmas.List.Sums.{fold-append}
 use Rattle.std.specs.Prelude.{unwrap_or}
 use Rattle.base_script.specs.declared.actor.Actor.TheVariants.{Client}
@@ -12,12 +12,14 @@ use Rattle.server_model.specs.declared.transaction.Reply.{Reply}
 use Rattle.server_model.specs.declared.transaction.TxnEnd.{TxnEnd}
 use Rattle.server_model.specs.declared.transaction.TxnLine.{TxnLine}
 use Rattle.server_model.specs.declared.entry.Entry.{Entry}
-use Rattle.server_model.specs.Along.{gathered}
 use Rattle.server_model.specs.Entries.{same_actor}
 use Rattle.plan_data.specs.PlanData.{PlanData}
-use Rattle.tool_program.specs.JournalWords.Clients.{Became, Nothing, Waits, Marked, Broken, Reached, after_turn, became, after_transaction, client_after, client_at, closes, ends_with, is_inside, kept_unless, left_after, marked, new_client, number_of, script_of, with_draw, with_line}
-use Rattle.tool_program.specs.JournalWords.Histories.{NumberedReply, replied, replied_in, replies_of}
-use Rattle.top_report.specs.ClientLines.Walks.{IsSmall, Walk, after_line, ends_now, is_open, new_walk, number_in, replied_by, replies_from, walk_after, walk_marked, walk_of}
+use Rattle.tool_program.specs.JournalWords.Clients as clients
+use Rattle.tool_program.specs.JournalWords.Clients.{Became, Reached, after_turn, became, after_transaction, client_after, client_at, closes, ends_with, is_inside, kept_unless, left_after, marked, new_client, number_of, script_of, with_draw, with_line}
+use Rattle.run_actors.specs.declared.client_turns.outcome.LineOutcome.{LineOutcome}
+use Rattle.run_actors.specs.declared.client_turns.outcome.LineOutcome.TheVariants.{Marked, Broken}
+use Rattle.run_actors.specs.ClientTurns.ActorStates.{line_outcome_as}
+use Rattle.top_report.specs.ClientLines.Walks.{Walk, ends_now, is_open, new_walk, number_in, walk_after, walk_marked, walk_of}
 
 -- ---- a client's walk is what is kept of how far it is
 
@@ -42,11 +44,9 @@ marked_is client mark reply (line ∷ lines) = rw (open_is client.lines) (ap (λ
       waits = false;
     }) (lines_are client line mark (ends_with (is_inside client.lines) line.word mark)))
 
-pub after_is : (what : Became) (client : Reached) → walk_after what (walk_of client) ≡ walk_of (client_after what client)
-after_is Nothing client = refl
-after_is Waits client = refl
-after_is (Marked mark reply) client = marked_is client mark reply client.left
-after_is Broken client = refl
+pub after_is : (what : Became) (client : Reached) → walk_after (line_outcome_as what) (walk_of client) ≡ walk_of (client_after what client)
+after_is (clients.Marked mark reply) client = marked_is client mark reply client.left
+after_is what client = refl
 
 -- ---- the walk through a journal
 
@@ -65,23 +65,6 @@ pub at_begin : (plan : PlanData) (number : ℕ) (script : List ScriptLine) → s
 unfolding client_at
 at_begin plan number script is = rw is refl
 
--- ---- the script behind a transaction, line by line
-
-pub ends_here : (lines : List ScriptLine) (place : ℕ) (line : ScriptLine) → place < length lines → line ≡ get_or lines place line → closes line.word ≡ true → after_transaction (drop place lines) ≡ after_transaction lines
-    → take (length lines - (place + 1)) (drop (place + 1) lines) ≡ after_transaction lines
-ends_here lines place line within at is so_far =
-    let here : after_transaction (drop place lines) ≡ drop (place + 1) lines = rw (drop_more lines place line within) (rw (sym at) (rw is refl)) in
-    take_rest lines (place + 1) ∙ sym here ∙ so_far
-
-pub goes_on : (lines : List ScriptLine) (place : ℕ) (line : ScriptLine) → place < length lines → line ≡ get_or lines place line → closes line.word ≡ false → after_transaction (drop place lines) ≡ after_transaction lines
-    → after_transaction (drop (place + 1) lines) ≡ after_transaction lines
-goes_on lines place line within at is so_far =
-    let here : after_transaction (drop place lines) ≡ after_transaction (drop (place + 1) lines) = rw (drop_more lines place line within) (rw (sym at) (rw is refl)) in
-    sym here ∙ so_far
-
-pub none_ends : (lines : List ScriptLine) (place : ℕ) → length lines ≤ place → after_transaction (drop place lines) ≡ after_transaction lines → [] ≡ after_transaction lines
-none_ends lines place past so_far = let none : after_transaction (drop place lines) ≡ [] = ap after_transaction (drop_all place lines past) in sym none ∙ so_far
-
 -- ---- its numbers stay small
 
 after_short : (lines : List ScriptLine) → length (after_transaction lines) ≤ length lines
@@ -96,13 +79,9 @@ after_first : (line : ScriptLine) (lines : List ScriptLine) (b : Bool) → close
 after_first line lines true is = rw is (omega arith)
 after_first line lines false is = rw is (after_short lines)
 
-after_line_short : (inside : Bool) (mark : Mark) (line : ScriptLine) (lines : List ScriptLine) → length (after_line inside mark (line ∷ lines)) ≤ length lines
-after_line_short true marks.Answered line lines = omega arith
-after_line_short true marks.TimedOut line lines = after_first line lines (closes line.word) refl
-after_line_short true (marks.Lost side) line lines = omega arith
-after_line_short false marks.Answered line lines = omega arith
-after_line_short false marks.TimedOut line lines = omega arith
-after_line_short false (marks.Lost side) line lines = omega arith
+left_short : (inside : Bool) (mark : Mark) (line : ScriptLine) (lines : List ScriptLine) → length (left_after inside mark line lines) ≤ length lines
+left_short true marks.TimedOut line lines = after_first line lines (closes line.word) refl
+left_short inside mark line lines = omega arith
 
 number_small : (walk : Walk) (b : Bool) → is_open walk ≡ b → number_in walk ≤ walk.begun + 1
 number_small walk true is = rw is (omega arith)
@@ -112,33 +91,27 @@ lines_small : (lines : ℕ) (b : Bool) → cond b 0 (lines + 1) ≤ lines + 1
 lines_small lines true = omega arith
 lines_small lines false = omega arith
 
-pub small_marked : (walk : Walk) (mark : Mark) (left : List ScriptLine) → walk.left ≡ left → IsSmall walk → IsSmall (walk_marked walk mark left)
-small_marked walk mark [] is small = small
-small_marked walk mark (line ∷ lines) is small =
+begun_small : (walk : Walk) (mark : Mark) (left : List ScriptLine) → walk.left ≡ left → walk.begun + length walk.left < 2 ^ 63 → (walk_marked walk mark left).begun + length (walk_marked walk mark left).left < 2 ^ 63
+begun_small walk mark [] is small = small
+begun_small walk mark (line ∷ lines) is small =
     let size : length walk.left ≡ suc (length lines) = ap (λ (left : List ScriptLine). length left) is in
-    let short : length (after_line (is_open walk) mark (line ∷ lines)) ≤ length lines = after_line_short (is_open walk) mark line lines in
+    let short : length (left_after (is_open walk) mark line lines) ≤ length lines = left_short (is_open walk) mark line lines in
     let number : number_in walk ≤ walk.begun + 1 = number_small walk (is_open walk) refl in
-    let few : cond (ends_now (is_open walk) mark (line ∷ lines)) 0 (walk.lines + 1) ≤ walk.lines + 1 = lines_small walk.lines (ends_now (is_open walk) mark (line ∷ lines)) in
-    let begun : walk.begun + length walk.left < 2 ^ 63 = small.begun in
-    let open_lines : walk.lines + length walk.left < 2 ^ 63 = small.lines in
-    record { begun = omega (arith, size, short, number, begun); lines = omega (arith, size, short, few, open_lines) }
+    omega (arith, size, short, number, small)
 
--- the same, where a line is left
-pub small_after : (walk : Walk) (mark : Mark) → (length walk.left == 0) ≡ false → IsSmall walk
-    → IsSmall (record {
-      left = after_line (is_open walk) mark walk.left;
-      begun = number_in walk;
-      lines = cond (ends_now (is_open walk) mark walk.left) 0 (walk.lines + 1);
-      waits = false;
-    })
-small_after walk mark some small = go walk.left refl
-  where
-    go : (left : List ScriptLine) → walk.left ≡ left
-        → IsSmall (record {
-          left = after_line (is_open walk) mark walk.left;
-          begun = number_in walk;
-          lines = cond (ends_now (is_open walk) mark walk.left) 0 (walk.lines + 1);
-          waits = false;
-        })
-    go [] is = absurd (cc (sym (ap (λ (left : List ScriptLine). length left == 0) is) ∙ some))
-    go (line ∷ lines) is = rw is (small_marked walk mark (line ∷ lines) is small)
+open_small : (walk : Walk) (mark : Mark) (left : List ScriptLine) → walk.left ≡ left → walk.lines + length walk.left < 2 ^ 63 → (walk_marked walk mark left).lines + length (walk_marked walk mark left).left < 2 ^ 63
+open_small walk mark [] is small = small
+open_small walk mark (line ∷ lines) is small =
+    let size : length walk.left ≡ suc (length lines) = ap (λ (left : List ScriptLine). length left) is in
+    let short : length (left_after (is_open walk) mark line lines) ≤ length lines = left_short (is_open walk) mark line lines in
+    let few : cond (ends_now (is_open walk) mark (line ∷ lines)) 0 (walk.lines + 1) ≤ walk.lines + 1 = lines_small walk.lines (ends_now (is_open walk) mark (line ∷ lines)) in
+    omega (arith, size, short, few, small)
+
+pub begun_after : (outcome : LineOutcome) (walk : Walk) → walk.begun + length walk.left < 2 ^ 63 → (walk_after outcome walk).begun + length (walk_after outcome walk).left < 2 ^ 63
+begun_after (Marked mark) walk small = begun_small walk mark walk.left refl small
+begun_after outcome walk small = small
+
+pub lines_after : (outcome : LineOutcome) (walk : Walk) → walk.lines + length walk.left < 2 ^ 63 → (walk_after outcome walk).lines + length (walk_after outcome walk).left < 2 ^ 63
+lines_after (Marked mark) walk small = open_small walk mark walk.left refl small
+lines_after Broken walk small = omega (arith, small)
+lines_after outcome walk small = small

@@ -1,17 +1,22 @@
 //! The history.
 
-ghost use Rattle.std.specs.Prelude.{◌≡◌, ◌++◌, map, option_map, IfOk, OnOk};
+ghost use Rattle.std.specs.Prelude.{◌≡◌, ◌++◌, ℕ, List, map, false, option_map, IfOk, OnOk};
+ghost use Rattle.std.specs.List.{flat_map};
 ghost use Rattle.base_script.specs.declared.actor.Actor.TheVariants.{Client};
-ghost use Rattle.top_report.specs.ClientLines.Pasts.{alter_text, history_line, past_text};
-ghost use Rattle.top_report.specs.ClientLines.Walks.{added_by, client_added, became_view, ended_text, history_from, new_walk, nobody_renames, tool_added, walk_at, walks_after};
+ghost use Rattle.server_model.specs.declared.entry.Entry.{Entry};
+ghost use Rattle.server_model.specs.Entries.{is_client};
+ghost use Rattle.tool_program.specs.JournalWords.Histories.{entry_adds, history};
+ghost use Rattle.run_actors.specs.Renamings.{AreRenaming};
+ghost use Rattle.top_report.specs.ClientLines.Pasts.{history_line, item_text, past_text};
+ghost use Rattle.top_report.specs.ClientLines.Walks.{client_added, ended_text, new_walk, walk_at, walks_after};
 
-use crate::client_lines::became::Became;
 use crate::client_lines::numbers::push_count;
-use crate::client_lines::renames::{Renaming, is_done_in, renames_in};
 use crate::client_lines::walk::Walk;
 use base_script::{Actor, Script};
-use base_values::{Name, Text};
+use base_values::Text;
 use plan_data::Plan;
+use run_actors::client_turns::LineOutcome;
+use run_actors::{Renaming, is_alter_turn};
 use server_model::Entry;
 use std::alloc::{AllocError, Global};
 
@@ -31,13 +36,13 @@ fn push_ended(
     into: &mut Text,
     client: u64,
     walk: &Walk<'_>,
-    became: &Became<'_>,
+    outcome: LineOutcome,
 ) -> Result<(), AllocError>
-    ensures { OnOk result (into.new ≡ into.old ++ ended_text client walk.now (became_view became.now)) }
+    ensures { OnOk result (into.new ≡ into.old ++ ended_text client walk.now outcome) }
 {
-    match became {
-        Became::Marked(mark, _) if walk.ends(*mark) => push_past(into, client, walk.number()),
-        Became::Broken if walk.is_open() => push_past(into, client, walk.begun()),
+    match outcome {
+        LineOutcome::Marked(mark) if walk.ends(mark) => push_past(into, client, walk.number()),
+        LineOutcome::Broken if walk.is_open() => push_past(into, client, walk.begun()),
         _ => Ok(()),
     }
 }
@@ -64,20 +69,22 @@ fn push_client_added(
 {
     match walk_at(client, walks) {
         None => Ok(()),
-        Some(walk) => push_ended(into, u64::from(client), walk, &walk.became(entry)),
+        Some(walk) => push_ended(into, u64::from(client), walk, walk.outcome(entry)),
     }
 }
 
 /// Adds the ALTER, where it was done in a turn of the tool's.
+#[tactic(auto, using(crate::proofs::ClientLines::Ending::alter_added, crate::proofs::ClientLines::Ending::nothing_added))]
 fn push_tool_added(
     into: &mut Text,
-    name: &Name,
-    waiting: bool,
+    plan: &Plan,
+    renaming: Renaming,
     entry: &Entry,
 ) -> Result<(), AllocError>
-    ensures { OnOk result (into.new ≡ into.old ++ tool_added name.now waiting entry.now) }
+    requires { is_client entry.now.actor ≡ false }
+    ensures { OnOk result ((before : List Entry) → AreRenaming plan.now before renaming → into.new ≡ into.old ++ flat_map item_text (entry_adds plan.now before entry.now)) }
 {
-    if renames_in(name, waiting, &entry.asked) && is_done_in(entry) {
+    if is_alter_turn(plan.table(), entry, renaming.at(entry.actor)) {
         into.push_str(" ALTER")
     } else {
         Ok(())
@@ -87,16 +94,17 @@ fn push_tool_added(
 /// Adds what a turn ends.
 fn push_added(
     into: &mut Text,
-    name: &Name,
+    plan: &Plan,
     walks: &[Walk<'_>],
     renaming: Renaming,
     entry: &Entry,
 ) -> Result<(), AllocError>
-    ensures { OnOk result (into.new ≡ into.old ++ added_by name.now walks.now renaming entry.now entry.now.actor) }
+    ensures client { OnOk result ((number : ℕ) → entry.now.actor ≡ Client number → into.new ≡ into.old ++ client_added number (walk_at number walks.now) entry.now) }
+    ensures tool { OnOk result ((before : List Entry) → is_client entry.now.actor ≡ false → AreRenaming plan.now before renaming → into.new ≡ into.old ++ flat_map item_text (entry_adds plan.now before entry.now)) }
 {
     match entry.actor {
         Actor::Client(client) => push_client_added(into, client, walks, entry),
-        actor => push_tool_added(into, name, renaming.at(actor), entry),
+        _ => push_tool_added(into, plan, renaming, entry),
     }
 }
 
@@ -117,8 +125,8 @@ fn pass_client(walks: &mut Vec<Walk<'_>>, client: u32, entry: &Entry)
     let place = client as usize;
     if place != 0 && place <= walks.len() {
         let walk = &mut walks[place - 1];
-        let became = walk.became(entry);
-        walk.take(&became);
+        let outcome = walk.outcome(entry);
+        walk.take(outcome);
     }
 }
 
@@ -128,24 +136,23 @@ fn walks_of<'a>(alloc: Global, scripts: &'a [Script]) -> Result<Vec<Walk<'a>>, A
 {
     let mut walks = Vec::with_capacity(alloc, scripts.len())?;
     for script in scripts {
-        walks.push(Walk::new(script.as_slice()))?;
+        walks.push(Walk::new(script))?;
     }
     Ok(walks)
 }
 
-#[tactic(auto, unfolding(crate::specs::ClientLines::Walks::history_from))]
 fn push_history(
     alloc: Global,
     into: &mut Text,
     plan: &Plan,
     journal: &[Entry],
 ) -> Result<(), AllocError>
-    ensures { OnOk result (into.new ≡ into.old ++ history_from plan.now.table (map new_walk plan.now.clients) nobody_renames journal.now) }
+    ensures { OnOk result (into.new ≡ into.old ++ flat_map item_text (history plan.now journal.now)) }
 {
     let mut walks = walks_of(alloc, plan.clients().as_slice())?;
     let mut renaming = Renaming::nobody();
     for entry in journal {
-        push_added(into, plan.table(), walks.as_slice(), renaming, entry)?;
+        push_added(into, plan, walks.as_slice(), renaming, entry)?;
         pass(&mut walks, entry);
         renaming.pass(plan.table(), entry);
     }
@@ -153,6 +160,7 @@ fn push_history(
 }
 
 /// Adds the transactions that ended and the ALTER, in the order of the turns that ended them.
+#[tactic(auto, unfolding(crate::specs::ClientLines::Pasts::history_line))]
 pub fn push_history_line(
     alloc: Global,
     into: &mut Text,

@@ -1,21 +1,23 @@
 //! What each client got.
 
 ghost use Rattle.std.specs.Prelude.{◌≡◌, ◌+◌, ◌++◌, None, OnOk, option_and_then};
+ghost use Rattle.base_script.specs.declared.actor.Actor.TheVariants.{Client};
 ghost use Rattle.std.specs.List.{flat_map};
 ghost use Rattle.tool_program.specs.JournalWords.Clients.{script_of};
 ghost use Rattle.server_model.specs.Alone.{reply_of};
+ghost use Rattle.server_model.specs.Entries.{same_actor};
 ghost use Rattle.server_model.specs.declared.transaction.Reply.TheVariants.{Error, Ok, Rows};
 ghost use Rattle.std.specs.declared.option.Option.TheVariants.{Some};
 ghost use Rattle.top_report.specs.ClientLines.Replies.{client_line, client_text, clients_text, draw_text, numbered_text, reply_text};
-ghost use Rattle.top_report.specs.ClientLines.Walks.{became_view, new_walk, number_in, replied_by, replies_from};
+ghost use Rattle.top_report.specs.ClientLines.Walks.{new_walk, number_in, replied_by, replies_from};
 
-use crate::client_lines::became::{Became, is_of};
 use crate::client_lines::numbers::{push_count, push_number_line};
 use crate::client_lines::walk::Walk;
-use base_script::ScriptLine;
+use base_script::{Actor, Script};
 use base_values::mysql_errors::ER_LOCK_WAIT_TIMEOUT;
 use base_values::{Row, Text};
 use plan_data::Plan;
+use run_actors::client_turns::{LineOutcome, heard_answer};
 use server_model::{Answer, Entry};
 use std::alloc::AllocError;
 use table_print::push_row_lines;
@@ -90,19 +92,30 @@ fn push_numbered(
     push_reply(into, heard, draw)
 }
 
-/// Adds what a client got in its turn.
+/// Adds what a client got in its turn, where it heard this answer or none.
 #[tactic(auto, using(crate::proofs::ClientLines::Replying::lone_reply))]
 fn push_replied(
     into: &mut Text,
     walk: &Walk<'_>,
-    became: &Became<'_>,
+    outcome: LineOutcome,
+    heard: Option<&Answer>,
     draw: Option<u64>,
 ) -> Result<(), AllocError>
-    ensures { OnOk result (into.new ≡ into.old ++ flat_map numbered_text (replied_by walk.now draw (became_view became.now))) }
+    ensures { OnOk result (into.new ≡ into.old ++ flat_map numbered_text (replied_by walk.now draw (option_and_then (λ answer. reply_of answer.now) heard.entry) outcome)) }
 {
-    match became {
-        Became::Marked(_, heard) => push_numbered(into, walk, *heard, draw),
-        Became::Nothing | Became::Waits | Became::Broken => Ok(()),
+    match outcome {
+        LineOutcome::Marked(_) => push_numbered(into, walk, heard, draw),
+        LineOutcome::Nothing | LineOutcome::Waits | LineOutcome::Broken => Ok(()),
+    }
+}
+
+/// Whether it is a turn of this client.
+fn is_of(actor: Actor, client: u64) -> bool
+    ensures { result ≡ same_actor actor (Client client) }
+{
+    match actor {
+        Actor::Client(number) => u64::from(number) == client,
+        _ => false,
     }
 }
 
@@ -112,16 +125,16 @@ fn push_replies(
     into: &mut Text,
     journal: &[Entry],
     client: u64,
-    script: &[ScriptLine],
+    script: &Script,
 ) -> Result<(), AllocError>
     ensures { OnOk result (into.new ≡ into.old ++ flat_map numbered_text (replies_from client (new_walk script.now) journal.now)) }
 {
     let mut walk = Walk::new(script);
     for entry in journal {
         if is_of(entry.actor, client) {
-            let became = walk.became(entry);
-            push_replied(into, &walk, &became, entry.draw)?;
-            walk.take(&became);
+            let outcome = walk.outcome(entry);
+            push_replied(into, &walk, outcome, heard_answer(entry), entry.draw)?;
+            walk.take(outcome);
         }
     }
     Ok(())
@@ -138,7 +151,7 @@ fn push_client(
     plan: &Plan,
     journal: &[Entry],
     client: u64,
-    script: &[ScriptLine],
+    script: &Script,
 ) -> Result<(), AllocError>
     requires { script_of client plan.now ≡ Some script.now }
     ensures { OnOk result (into.new ≡ into.old ++ client_text plan.now journal.now client) }
@@ -154,7 +167,7 @@ pub fn push_clients(into: &mut Text, plan: &Plan, journal: &[Entry]) -> Result<(
 {
     let mut client = 1;
     for script in plan.clients().as_slice() {
-        push_client(into, plan, journal, client, script.as_slice())?;
+        push_client(into, plan, journal, client, script)?;
         client += 1;
     }
     Ok(())

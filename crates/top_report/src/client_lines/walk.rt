@@ -1,95 +1,69 @@
-//! How far a client is in its script.
+//! How far a client is in its script, with the numbers that the report has of it.
 
-ghost use Rattle.std.specs.Prelude.{◌≡◌, ◌+◌, if◌then◌else◌};
-ghost use Rattle.tool_program.specs.JournalWords.Clients.{after_transaction, closes};
-ghost use Rattle.top_report.specs.ClientLines.Walks.{became_now, became_view, after_line, ends_now, is_open, new_walk, number_in, walk_after, walk_marked};
+ghost use Rattle.std.specs.Prelude.{◌≡◌, ◌+◌, ◌<◌, ◌^◌, if◌then◌else◌, length};
+ghost use Rattle.top_report.specs.ClientLines.Walks.{ends_now, is_marked, is_open, new_walk, number_in, outcome_now, walk_after};
 
-use crate::client_lines::became::{Became, became_in, ends};
-use base_script::{ScriptLine, ScriptWord};
+use base_script::{Script, ScriptLine};
+use run_actors::client_turns::{ClientState, LineOutcome, ends, line_outcome_of};
 use server_model::{Entry, Mark};
 use std::marker::Model;
 
 /// How far a client is in its script, as its turns tell.
 #[derive(Drop)]
 pub(crate) struct Walk<'a> {
-    left: &'a [ScriptLine],
+    script: &'a Script,
+    state: ClientState,
+    /// How many transactions it began.
     begun: u64,
+    /// How many lines its open transaction has; 0 where none is open.
     lines: u64,
-    waits: bool,
 }
 
 impl<'a> Model for Walk<'a> {
-    ghost use Rattle.top_report.specs.ClientLines.Walks.{IsSmall, Walk as WalkView};
+    ghost use Rattle.top_report.specs.ClientLines.Walks.{IsKept, Walk as WalkView, walk_in};
 
     ghost Value = { WalkView };
 
-    ghost view = { λ w. record { left = w.left.now; begun = w.begun; lines = w.lines; waits = w.waits } };
+    ghost view = { λ w. walk_in w.script.now w.state w.begun w.lines };
 
-    ghost invariant = { λ w. IsSmall (record { left = w.left.now; begun = w.begun; lines = w.lines; waits = w.waits }) };
+    ghost invariant = { λ w. IsKept w.state.is_inside (walk_in w.script.now w.state w.begun w.lines) };
 }
 
-fn closes(word: &ScriptWord) -> bool
-    ensures { result ≡ closes word.now }
+/// How many lines these are. For the prover: they are few, since they are a slice.
+fn line_count(lines: &[ScriptLine]) -> usize
+    ensures { length lines.now < 2 ^ 63 }
 {
-    match word {
-        ScriptWord::Commit | ScriptWord::Rollback => true,
-        ScriptWord::Begin | ScriptWord::Do(_) => false,
-    }
-}
-
-/// The script after the open transaction.
-#[tactic(auto, using(crate::proofs::ClientLines::Walking::ends_here, crate::proofs::ClientLines::Walking::goes_on, crate::proofs::ClientLines::Walking::none_ends))]
-fn after_transaction(lines: &[ScriptLine]) -> &[ScriptLine]
-    ensures { result.now ≡ after_transaction lines.now }
-{
-    let mut place = 0;
-    for line in lines {
-        place += 1;
-        if closes(&line.word) {
-            return &lines[place..];
-        }
-    }
-    &[]
-}
-
-/// The script after its first line, which got this mark.
-pub fn after_line(inside: bool, mark: Mark, left: &[ScriptLine]) -> &[ScriptLine]
-    ensures { result.now ≡ after_line inside mark left.now }
-{
-    match mark {
-        Mark::TimedOut if inside => after_transaction(left),
-        _ => match left {
-            [] => &[],
-            [_, lines @ ..] => lines,
-        },
-    }
+    lines.len()
 }
 
 impl<'a> Walk<'a> {
     /// A client at its script's begin.
-    pub(crate) fn new(script: &'a [ScriptLine]) -> Walk<'a>
+    #[tactic(auto, using(crate::proofs::ClientLines::Stepping::new_is))]
+    pub(crate) fn new(script: &'a Script) -> Walk<'a>
         ensures { result ≡ new_walk script.now }
     {
+        let lines = script.as_slice();
+        let _count = line_count(lines);
         Walk {
-            left: script,
+            script,
+            state: ClientState::new(),
             begun: 0,
             lines: 0,
-            waits: false,
         }
     }
 
     /// What became of its line in its turn.
-    pub(crate) fn became<'e>(&self, entry: &'e Entry) -> Became<'e>
-        ensures { became_view result ≡ became_now self.now entry.now }
+    pub(crate) fn outcome(&self, entry: &Entry) -> LineOutcome
+        ensures { result ≡ outcome_now self.now entry.now }
     {
-        became_in(self.waits, entry)
+        line_outcome_of(self.state.waits, entry)
     }
 
     /// Whether a transaction is open.
     pub(crate) fn is_open(&self) -> bool
         ensures { result ≡ is_open self.now }
     {
-        self.lines != 0
+        self.state.is_inside
     }
 
     /// The number of the transaction that its next line is of.
@@ -121,44 +95,49 @@ impl<'a> Walk<'a> {
     pub(crate) fn ends(&self, mark: Mark) -> bool
         ensures { result ≡ ends_now (is_open self.now) mark self.now.left }
     {
-        match self.left {
-            [] => false,
-            [line, ..] => ends(self.is_open(), &line.word, mark),
+        match self.state.left(self.script).split_first() {
+            None => false,
+            Some((line, _)) => ends(self.is_open(), &line.word, mark),
         }
     }
 
-    /// How many lines the open transaction has after its next line, which gets this mark.
-    fn lines_after(&self, mark: Mark) -> u64
-        ensures { result ≡ (if ends_now (is_open self.now) mark self.now.left then 0 else self.now.lines + 1) }
+    /// Whether a line is left, which got a mark.
+    fn is_marked(&self, outcome: LineOutcome) -> bool
+        ensures { result ≡ is_marked outcome self.now.left }
     {
-        if self.ends(mark) { 0 } else { self.line() }
+        match outcome {
+            LineOutcome::Marked(_) => match self.state.left(self.script).split_first() {
+                None => false,
+                Some(_) => true,
+            },
+            LineOutcome::Nothing | LineOutcome::Waits | LineOutcome::Broken => false,
+        }
     }
 
-    /// How far it is after its next line, which got this mark.
-    #[tactic(auto, using(crate::proofs::ClientLines::Walking::small_after))]
-    fn mark(&mut self, mark: Mark)
-        ensures { self.new ≡ walk_marked self.old mark self.old.left }
+    /// The numbers of its transaction and of its line after its turn, where a transaction is open then.
+    fn numbers_after(&self, outcome: LineOutcome) -> (u64, u64)
+        ensures transaction { result.0 ≡ (if is_marked outcome self.now.left then number_in self.now else self.now.begun) }
+        ensures line { result.1 ≡ (if is_marked outcome self.now.left then self.now.lines + 1 else self.now.lines) }
     {
-        if self.left.is_empty() {
-            return;
+        if self.is_marked(outcome) {
+            (self.number(), self.line())
+        } else {
+            (self.begun, self.lines)
         }
-        *self = Walk {
-            left: after_line(self.is_open(), mark, self.left),
-            begun: self.number(),
-            lines: self.lines_after(mark),
-            waits: false,
-        };
     }
 
     /// How far it is after its turn.
-    pub(crate) fn take(&mut self, became: &Became<'_>)
-        ensures { self.new ≡ walk_after (became_view became.now) self.old }
+    pub(crate) fn take(&mut self, outcome: LineOutcome)
+        ensures { self.new ≡ walk_after outcome self.old }
     {
-        match became {
-            Became::Nothing => {}
-            Became::Waits => self.waits = true,
-            Became::Marked(mark, _) => self.mark(*mark),
-            Became::Broken => self.lines = 0,
-        }
+        let (begun, lines) = self.numbers_after(outcome);
+        let mut state = self.state;
+        state.becomes(self.script, outcome);
+        *self = Walk {
+            script: self.script,
+            state,
+            begun,
+            lines: if state.is_inside { lines } else { 0 },
+        };
     }
 }

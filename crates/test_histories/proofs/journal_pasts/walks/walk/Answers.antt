@@ -1,6 +1,6 @@
 use Rattle.std.proofs.Common.{ℕ, List, [], map, sym, ap, ◌∙◌, subst}
-use Rattle.top_report.specs.ClientLines.Walks.{AreRenaming, renaming_after}
-use Rattle.top_report.proofs.ClientLines.Ending.{renaming_begins}
+use Rattle.run_actors.specs.Renamings.{AreRenaming, renaming_after}
+use Rattle.run_actors.proofs.Renamings.{renaming_begins}
 use Rattle.test_histories.specs.JournalPasts.Walks.{item_as}
 use Rattle.test_histories.proofs.JournalPasts.Clients.{begin_so}
 use Rattle.test_histories.proofs.JournalPasts.Whole.{history_begins, next}

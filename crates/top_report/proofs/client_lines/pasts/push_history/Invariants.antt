@@ -1,8 +1,7 @@
-use Rattle.std.proofs.Common.{◌≡◌, ◌++◌, drop, map}
-use Rattle.top_report.specs.ClientLines.Walks.{history_from, new_walk, nobody_renames}
+use Rattle.std.proofs.Common.{take}
+use Rattle.top_report.proofs.ClientLines.Ending.{SoFar}
 use Rattle.top_report.proofs.client_lines.pasts.push_history.Given as goal
 
--- what stands with the history of the turns that are left is all
+-- what stands is the history of the turns so far
 abbrev pub invariant-loop-entry : goal.invariant-loop-entry
-invariant-loop-entry l =
-    l.into ++ history_from l.plan.table l.walks.items l.renaming (drop l.entry-index l.journal) ≡ l.fn.into ++ history_from l.plan.table (map new_walk l.plan.clients) nobody_renames l.journal
+invariant-loop-entry l = SoFar l.plan (take l.entry-index l.journal) l.walks.items l.renaming l.fn.into l.into

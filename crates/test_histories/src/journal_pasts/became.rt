@@ -1,17 +1,15 @@
-//! What became of a client's line in a turn.
+//! What became of a client's line in a turn, and the script after it.
 
-ghost use Rattle.std.specs.Prelude.{◌≡◌, is_some};
-ghost use Rattle.base_script.specs.declared.actor.Actor.TheVariants.{Client};
-ghost use Rattle.server_model.specs.Entries.{same_actor};
-ghost use Rattle.tool_program.specs.JournalWords.Clients.{became_in, became_of, cut_off, ends_with, lost_side, was_done};
-ghost use Rattle.top_report.specs.ClientLines.Walks.{became_view};
+ghost use Rattle.std.specs.Prelude.{◌≡◌};
+ghost use Rattle.tool_program.specs.JournalWords.Clients.{after_transaction, became_in, became_of, closes, cut_off, lost_side, was_done};
+ghost use Rattle.test_histories.specs.JournalPasts.Lines.{after_line, became_view};
 
-use base_script::{Actor, ScriptWord, Side};
+use base_script::{ScriptLine, ScriptWord, Side};
 use server_model::{Answer, Asked, Entry, Mark};
 
 /// What became of it.
 #[derive(Drop)]
-pub enum Became<'a> {
+pub(crate) enum Became<'a> {
     /// The turn says nothing of the line: it is the next one still.
     Nothing,
     /// It was asked, and its session's request waits.
@@ -20,16 +18,6 @@ pub enum Became<'a> {
     Marked(Mark, Option<&'a Answer>),
     /// The session was lost between lines.
     Broken,
-}
-
-/// Whether it is a turn of this client.
-pub(crate) fn is_of(actor: Actor, client: u64) -> bool
-    ensures { result ≡ same_actor actor (Client client) }
-{
-    match actor {
-        Actor::Client(number) => u64::from(number) == client,
-        _ => false,
-    }
 }
 
 /// Whether a lost call was done.
@@ -75,7 +63,7 @@ fn cut_off<'a>(waits: bool) -> Became<'a>
 }
 
 /// What became of a client's line in its turn, where it waited before that or didn't.
-pub fn became_in(waits: bool, entry: &Entry) -> Became<'_>
+pub(crate) fn became_in(waits: bool, entry: &Entry) -> Became<'_>
     ensures { became_view result ≡ became_in waits entry.now.asked entry.now.side entry.now.answer entry.now.missed }
 {
     match (&entry.asked, entry.side) {
@@ -85,16 +73,39 @@ pub fn became_in(waits: bool, entry: &Entry) -> Became<'_>
     }
 }
 
-/// Whether a line of this mark ends its transaction.
-pub(crate) fn ends(inside: bool, word: &ScriptWord, mark: Mark) -> bool
-    ensures { result ≡ is_some (ends_with inside word.now mark) }
+fn closes(word: &ScriptWord) -> bool
+    ensures { result ≡ closes word.now }
+{
+    match word {
+        ScriptWord::Commit | ScriptWord::Rollback => true,
+        ScriptWord::Begin | ScriptWord::Do(_) => false,
+    }
+}
+
+/// The script after the open transaction.
+#[tactic(auto, using(crate::proofs::JournalPasts::Lines::ends_here, crate::proofs::JournalPasts::Lines::goes_on, crate::proofs::JournalPasts::Lines::none_ends))]
+fn after_transaction(lines: &[ScriptLine]) -> &[ScriptLine]
+    ensures { result.now ≡ after_transaction lines.now }
+{
+    let mut place = 0;
+    for line in lines {
+        place += 1;
+        if closes(&line.word) {
+            return &lines[place..];
+        }
+    }
+    &[]
+}
+
+/// The script after its first line, which got this mark.
+pub(crate) fn after_line(inside: bool, mark: Mark, left: &[ScriptLine]) -> &[ScriptLine]
+    ensures { result.now ≡ after_line inside mark left.now }
 {
     match mark {
-        Mark::Answered => match word {
-            ScriptWord::Begin => false,
-            ScriptWord::Commit | ScriptWord::Rollback => true,
-            ScriptWord::Do(_) => !inside,
+        Mark::TimedOut if inside => after_transaction(left),
+        _ => match left {
+            [] => &[],
+            [_, lines @ ..] => lines,
         },
-        Mark::TimedOut | Mark::Lost(_) => true,
     }
 }

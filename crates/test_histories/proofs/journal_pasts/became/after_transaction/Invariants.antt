@@ -1,7 +1,7 @@
 use Rattle.std.proofs.Common.{◌≡◌, ℕ, List, drop}
 use Rattle.base_script.specs.declared.script.ScriptLine.{ScriptLine}
 use Rattle.tool_program.specs.JournalWords.Clients.{after_transaction}
-use Rattle.top_report.proofs.client_lines.walk.after_transaction.Given as goal
+use Rattle.test_histories.proofs.journal_pasts.became.after_transaction.Given as goal
 
 pub record Passing (lines : List ScriptLine) (place index : ℕ) : Type 0 where
   pub so_far : after_transaction (drop index lines) ≡ after_transaction lines
