@@ -8,6 +8,7 @@ pub mod Marks
 pub mod Sentries
 pub mod Refusals
 pub mod Verdicts
+pub mod UnfitRows
 pub mod Counts
 pub mod Batches
 pub mod RowsAbove

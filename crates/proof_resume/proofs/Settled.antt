@@ -10,7 +10,6 @@ pub mod RollingBack
 pub mod Waits
 pub mod Setups
 pub mod Thirds
-pub mod Takes
 pub mod Reverting
 pub mod Checkpoints
 pub mod Resuming

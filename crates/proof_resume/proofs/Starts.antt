@@ -1,4 +1,3 @@
-pub mod Owners
 pub mod Calls
 pub mod Checkpoints
 pub mod Exchanging
@@ -10,3 +9,4 @@ pub mod Starting
 pub mod PrintedKeys
 pub mod StoredKeys
 pub mod Finishable
+pub mod Outcomes

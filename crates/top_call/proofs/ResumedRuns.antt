@@ -69,11 +69,6 @@ ended_alone plan run ended = by plan.options.resume (is_over plan run) (has_ende
   by true false c d is = refl
   by false b c d is = refl
 
--- nor is any of a plan without `resume`
-pub unresumed_alone : (plan : PlanData) (run : List Entry) → plan.options.resume ≡ false → is_resumed plan run ≡ false
-unfolding is_resumed
-unresumed_alone plan run none = ap (λ (b : Bool). b && is_over plan run && not (has_ended plan run) && has_checkpoint plan run) none
-
 -- nor is one without a checkpoint
 pub unchecked_alone : (plan : PlanData) (run : List Entry) → has_checkpoint plan run ≡ false → is_resumed plan run ≡ false
 unfolding is_resumed
@@ -152,10 +147,6 @@ all_of plan journal = take-append-drop plan.options.turn_limit journal
 -- then the journal is the run's
 pub run_whole : (plan : PlanData) (journal : List Entry) → finish_in plan journal ≡ [] → run_in plan journal ≡ journal
 run_whole plan journal none = sym (append-nil (run_in plan journal)) ∙ ap (λ (all : List Entry). run_in plan journal ++ all) (sym none) ∙ all_of plan journal
-
--- *Without `resume`* the journal is the run's.
-pub unresumed_whole : (plan : PlanData) (journal : List Entry) → plan.options.resume ≡ false → Resumes plan journal → run_in plan journal ≡ journal
-unresumed_whole plan journal none resumes = run_whole plan journal (alone plan journal resumes (unresumed_alone plan (run_in plan journal) none))
 
 -- THE WHOLE JOURNAL
 

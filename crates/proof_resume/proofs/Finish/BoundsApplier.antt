@@ -1,15 +1,13 @@
 -- The new tool's applier goes on: it reads some event, its transactions begin and are committed, and no statement is refused but by a column
 -- that a value doesn't fit, or an UPDATE by another row's key.
-use Rattle.std.proofs.Common.{◌≡◌, ℕ, zero, suc, ◌+◌, ◌≤◌, ◌<◌, ◌==◌, Bool, true, false, not, List, [], ◌∷◌, ◌++◌, length, map, take, cond, Option, Some, None, refl, sym, ap, ◌∙◌, subst, arith}
+use Rattle.std.proofs.Common.{◌≡◌, ℕ, zero, suc, ◌+◌, ◌≤◌, ◌==◌, Bool, true, false, not, List, [], ◌∷◌, ◌++◌, length, map, take, cond, Option, Some, None, refl, sym, ap, ◌∙◌, subst, arith}
 use Rattle.std.specs.Prelude.{count_by, drop}
 use Rattle.std.specs.List.{slice_get}
 use Rattle.std.specs.Option.{option_map}
 use Rattle.std.proofs.lemmas.Bool.{false≢true}
 use Rattle.base_values.specs.ToolNames.{log_name}
 use Rattle.base_values.specs.declared.event.RowEvent.{RowEvent}
-use Rattle.base_values.proofs.SchemaRules.Lists.{All-at}
 use Rattle.base_script.specs.declared.actor.Actor.TheVariants.{Apply}
-use Rattle.base_script.specs.declared.statement.Statement.{Statement}
 use Rattle.table_store.specs.Databases.{Database, TableRows}
 use Rattle.server_model.specs.Answers.{ok}
 use Rattle.server_model.specs.EarlierAnswers.{events_in}
@@ -30,7 +28,7 @@ use Rattle.server_model.specs.declared.request.Request.TheVariants as requests
 use Rattle.plan_data.specs.PlanData.{PlanData}
 use Rattle.tool_program.specs.JournalWords.Journals.{opens, state_at, IsAnswered}
 use Rattle.tool_program.specs.JournalWords.Sessions.{IsSeated}
-use Rattle.tool_program.specs.EventApplier.Appliers.{Changing, Doing, call_at, doing_in, in_part, planned, statement_result}
+use Rattle.tool_program.specs.EventApplier.Appliers.{Doing, in_part, planned}
 use Rattle.tool_program.specs.EventApplier.Appliers as appliers
 use Rattle.tool_program.specs.declared.chunk_copier.copier.Copier.{Copier}
 use Rattle.tool_program.specs.declared.event_applier.applier.Applier.{Applier}
@@ -38,10 +36,7 @@ use Rattle.tool_program.specs.declared.event_applier.applier.ApplyStep.{ApplySte
 use Rattle.tool_program.specs.declared.event_applier.applier.ApplyStep.TheVariants as batches
 use Rattle.tool_program.specs.declared.event_applier.applier.Batch.{Batch}
 use Rattle.tool_program.specs.declared.event_applier.applier.Part.{Part}
-use Rattle.tool_program.specs.declared.event_applier.applier.Part.TheVariants.{Whole, Removal, Return}
-use Rattle.proof_journals.specs.Ghost.Doings.{planned as row_doings}
 use Rattle.proof_journals.specs.Ghost.HeldKeys.{Clustered}
-use Rattle.proof_journals.specs.Ghost.OwnChanges.{own_changes}
 use Rattle.proof_journals.specs.Ghost.Rows.Moments.{Row}
 use Rattle.proof_journals.specs.Ghost.Rows.Timelines.{Migration}
 use Rattle.proof_journals.specs.Holdings.{Face, face_of}
@@ -60,24 +55,25 @@ use Rattle.proof_journals.proofs.Journals.{stored_opened}
 use Rattle.proof_journals.proofs.Machine.Schemas.{schema_events}
 use Rattle.proof_journals.proofs.Machine.Seated.{IsKnown}
 use Rattle.proof_journals.proofs.PlanJournals.{plan_runs_are_scene_runs}
-use Rattle.proof_journals.proofs.Run.Living.{own_kind}
 use Rattle.proof_journals.proofs.Sentry.Draining.{IsRead}
-use Rattle.proof_migration.specs.Migration.Applier.ApplierPlace.{IsBatchReported, IsUpdate, PartKnows, StepKnows}
+use Rattle.proof_migration.specs.Migration.Applier.ApplierPlace.{StepKnows}
 use Rattle.proof_migration.specs.Migration.Machines.{MigrationStands}
 use Rattle.proof_migration.specs.Program.Turns.Laws.{IsMigrationOf}
+use Rattle.proof_migration.proofs.Migration.Applier.NextStatement.{NextStatement, next_statement}
+use Rattle.proof_bounds.proofs.TaskTurns.BatchesGo.{part_so}
+use Rattle.proof_migration.proofs.ToolServes.{session_of_tool}
 use Rattle.proof_migration.proofs.Migration.Applier.Answers.{TableSeen}
 use Rattle.proof_migration.proofs.Migration.Applier.Knowing.{next_at}
-use Rattle.proof_migration.proofs.Migration.Applier.Planning.{DoesRows, NextDoing, next_doing, planned_alike, planned_rows}
-use Rattle.proof_migration.proofs.Migration.Applier.Statements.{said, said_is}
+use Rattle.proof_migration.proofs.Migration.Applier.Statements.{said}
 use Rattle.proof_migration.proofs.Program.Hints.Telling.{both_tables, reading_said}
 use Rattle.proof_migration.proofs.ToolPhase.CopyAnswers.{not_outside}
-use Rattle.proof_bounds.specs.TaskTurns.Answers.{left_at, IsChange, IsClash}
+use Rattle.proof_bounds.specs.TaskTurns.Answers.{left_at, IsClash}
 use Rattle.proof_bounds.proofs.TaskTurns.BatchSteps.{PartFits}
 use Rattle.proof_bounds.proofs.TaskTurns.ReadLogs.{reads_some, ReadsSome}
 use Rattle.proof_bounds.proofs.TaskTurns.StatementAnswers.{done_so, seen_so, StatementAnswer}
 use Rattle.proof_resume.specs.Finish.Batches.{LetsGoOn}
 use Rattle.proof_resume.specs.Finish.Prompt.{came_at_once}
-use Rattle.proof_resume.specs.Finish.Walks.{machines_of, StandsFor}
+use Rattle.proof_migration.specs.Program.Turns.Goes.{machines_of, StandsFor}
 use Rattle.proof_resume.proofs.Finish.Batches.{reads_let_go_on}
 use Rattle.proof_resume.proofs.Finish.BoundsLogs.{applies_here, some_sessions}
 use Rattle.proof_resume.proofs.Finish.Holders.{opened_held, IsHeldBy}
@@ -85,7 +81,6 @@ use Rattle.proof_resume.proofs.Finish.Machines.{IsApplierOf}
 use Rattle.proof_resume.proofs.Finish.Owners.{Owners}
 use Rattle.proof_resume.proofs.Finish.Prompt.{answer_is}
 use Rattle.proof_resume.proofs.Finish.Verdicts.{none_locked}
-use Rattle.proof_resume.proofs.Finish.Walks.{kind_of_tool}
 
 -- WHAT IS DONE
 
@@ -108,17 +103,6 @@ within_log test (suc position) [] some = absurd (no some) where
   no : 1 ≤ 0 → ⊥
   no less = omega (arith, less)
 within_log test (suc position) (event ∷ log) some = let less = within_log test position log some in omega (arith, less)
-
--- what goes in parts is the UPDATE that comes first
-is_change : (doing : Doing) (rest : List Doing) → IsUpdate (doing ∷ rest) → IsChange (Some doing)
-is_change doing rest update = let same : doing ≡ Changing update.old update.new = first doing rest update.old update.new update.rest update.is in subst (λ (d : Doing). IsChange (Some d)) (sym same) tt where
-  first : (doing : Doing) (rest : List Doing) (old new : Row) (more : List Doing) → doing ∷ rest ≡ Changing old new ∷ more → doing ≡ Changing old new
-  first doing rest old new more same = cc
-
-part_so : (part : Part) (doing : Doing) (rest : List Doing) → PartKnows part (doing ∷ rest) → PartFits part (Some doing)
-part_so Whole doing rest knows = tt
-part_so Removal doing rest knows = is_change doing rest knows
-part_so Return doing rest knows = is_change doing rest knows
 
 -- what was planned for the batch whose events were read
 abbrev pub batch_doings : List Entry → Applier → Batch → List Doing
@@ -163,9 +147,7 @@ module _ (plan : PlanData) (m : Migration) (at : Clustered m.schema) (rows : Lis
   unlocked request = not_outside (session_of n open_now.sessions) request (none_locked (Some n) n open_now.sessions (opened_held (Some n) (is_command entry.asked) (not (is_client entry.actor)) n now held).sessions)
 
   tool_now : is_of_tool (session_of n open_now.sessions) ≡ true
-  tool_now =
-      kind_of_tool (session_of n open_now.sessions)
-      (own_kind journal now entry owners.both.living owners.both.known (placed journal entry in_own) answered (ap is_command called) ∙ ap (λ (b : Bool). Some (not b)) (ap is_client who))
+  tool_now = session_of_tool journal now entry owners.both.living owners.both.known (placed journal entry in_own) answered (ap is_command called) (ap is_client who)
 
   opened_tables : open_now.tables ≡ now.tables
   opened_tables = ap (λ (s : Stored). s.tables) (stored_opened (is_command entry.asked) (not (is_client entry.actor)) n now)
@@ -231,46 +213,17 @@ module _ (plan : PlanData) (m : Migration) (at : Clustered m.schema) (rows : Lis
   statement_goes batch count part doing doings answer once there fits = absurd fits
 
   module _ (batch : Batch) (count : ℕ) (part : Part) (is : applier.step ≡ batches.Applying batch count part) where
-    knows : StepKnows m journal (batches.Applying batch count part)
-    knows = subst (StepKnows m journal) is here.applier_knows.step
-
-    reported : IsBatchReported m journal batch
-    reported = knows.0
+    next_one : NextStatement m journal applier batch count part
+    next_one = next_statement m of.finds journal applier (of_plan.table ∙ sym of.of.name) (of_plan.schema ∙ sym of.of.new) (of_plan.map ∙ sym of.of.columns) here.applier_knows batch count part is
 
     ghost_now : schema_of m.new.name now.tables ≡ Some m.new
     ghost_now = any_kept (schema_of m.new.name now.tables ≡ Some m.new) m at rows copier_session n _ (λ apply kept. ap (option_map (λ (table : TableRows). table.schema)) kept.tool.kept.new) here.tool.stands
 
-    abbrev all_doings : List Doing
-    all_doings = row_doings m (own_changes m.name reported.events)
-
-    next_one : NextDoing all_doings count
-    next_one = next_doing all_doings count (subst (λ (k : ℕ). count < k) reported.counted knows.1)
-
-    does_rows : DoesRows m.schema.columns next_one.doing
-    does_rows = All-at (DoesRows m.schema.columns) all_doings count next_one.doing (planned_rows m (own_changes m.name reported.events) reported.rows) next_one.there
-
     parted : PartFits part (Some next_one.doing)
-    parted =
-        part_so part next_one.doing (drop (count + 1) all_doings)
-        (subst (PartKnows part) (ap (λ (a : Option Answer). drop count (row_doings m (own_changes m.name (events_in a)))) reported.reported ∙ next_one.is) knows.2)
-
-    schema_is : applier.new_schema ≡ m.new
-    schema_is = of_plan.schema ∙ sym of.of.new
-
-    map_is : applier.map ≡ m.columns
-    map_is = of_plan.map ∙ sym of.of.columns
-
-    code_plan : batch_doings journal applier batch ≡ all_doings
-    code_plan = ap (λ (a : Option Answer). planned applier (events_in a)) reported.reported ∙ planned_alike m applier reported.events of.finds (of_plan.table ∙ sym of.of.name) schema_is map_is reported.rows
+    parted = part_so part next_one.doing _ next_one.knows
 
     abbrev statement : Request
     statement = requests.Do (said m.new m.columns (in_part part next_one.doing))
-
-    next_is_statement : appliers.next journal applier ≡ statement
-    next_is_statement =
-        next_at journal applier (batches.Applying batch count part) is
-        ∙ ap (statement_result applier) (ap (λ (l : List Doing). doing_in part (slice_get l count)) code_plan ∙ ap (doing_in part) next_one.there)
-        ∙ ap (λ (s : Statement). requests.Do s) (said_is m applier (in_part part next_one.doing) schema_is map_is)
 
     -- the new table, as the session sees it
     abbrev own_writes : List RowEvent
@@ -289,11 +242,11 @@ module _ (plan : PlanData) (m : Migration) (at : Clustered m.schema) (rows : Lis
 
     said_so : StatementAnswer part next_one.doing entry.answer
     said_so =
-        subst (StatementAnswer part next_one.doing) (sym (answer_so ∙ ap (λ (r : Request). (done open_now n r).answer) next_is_statement))
-        (done_so m rows of.planned of.finds open_now n tool_now seen_table part next_one.doing does_rows parted (unlocked statement))
+        subst (StatementAnswer part next_one.doing) (sym (answer_so ∙ ap (λ (r : Request). (done open_now n r).answer) next_one.asks))
+        (done_so m rows of.planned of.finds open_now n tool_now seen_table part next_one.doing next_one.rows parted (unlocked statement))
 
     applies_go : (doings : List Doing) → batch_doings journal applier batch ≡ doings → Goes doings (batches.Applying batch count part) entry.answer
-    applies_go doings are = statement_goes batch count part next_one.doing doings entry.answer at_once (ap (λ (l : List Doing). slice_get l count) (sym are ∙ code_plan) ∙ next_one.there) said_so
+    applies_go doings are = statement_goes batch count part next_one.doing doings entry.answer at_once (ap (λ (l : List Doing). slice_get l count) (sym are) ∙ next_one.planned_so) said_so
 
   -- *The applier goes on*
   pub applier_goes : (doings : List Doing) → AreDoings (batch_doings journal applier) doings applier.step → (appliers.starts applier ≡ true → 1 ≤ left_at plan.table now.log applier.position) → Goes doings applier.step entry.answer
@@ -309,4 +262,4 @@ module _ (plan : PlanData) (m : Migration) (at : Clustered m.schema) (rows : Lis
   batch_answered batch is = let knows : StepKnows m journal (batches.Beginning batch) = subst (StepKnows m journal) is here.applier_knows.step in (_, knows.0.reported)
 
   pub statement_answered : (batch : Batch) (count : ℕ) (part : Part) → applier.step ≡ batches.Applying batch count part → (answer : Answer) × (answer_at journal batch.read ≡ Some answer)
-  statement_answered batch count part is = (_, (reported batch count part is).reported)
+  statement_answered batch count part is = (_, (next_one batch count part is).reported.reported)

@@ -47,12 +47,11 @@ use Rattle.proof_journals.proofs.Journals.{stored_opened}
 use Rattle.proof_journals.proofs.Machine.Marks.{ghost_not_log}
 use Rattle.proof_journals.proofs.Machine.Seated.{IsKnown}
 use Rattle.proof_migration.specs.Migration.Machines.{hold_at, MigrationStands}
-use Rattle.proof_migration.specs.Program.Turns.Goes.{IsOf}
+use Rattle.proof_migration.specs.Program.Turns.Goes.{IsOf, machines_of, StandsFor}
 use Rattle.proof_migration.proofs.Program.Turns.ActorStates.{actor_state_apart, actor_state_before, actor_state_own, some_actor_states, SomeActorStates}
 use Rattle.proof_migration.proofs.Program.Turns.Others.{ghost_named}
 use Rattle.proof_bounds.specs.TaskTurns.Answers.{left_at}
 use Rattle.proof_bounds.proofs.TaskTurns.Logs.{grows_least, grows_most}
-use Rattle.proof_resume.specs.Finish.Walks.{machines_of, StandsFor}
 use Rattle.proof_resume.proofs.Finish.Holders.{IsHeldBy}
 use Rattle.proof_resume.proofs.Finish.Owners.{Owners}
 use Rattle.proof_resume.proofs.Finish.Prompt.{after_is}

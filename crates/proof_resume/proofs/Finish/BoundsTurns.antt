@@ -70,7 +70,7 @@ use Rattle.proof_resume.specs.Finish.Bounds.{count_of, events_left, position_in,
 use Rattle.proof_resume.specs.Finish.Chunks.{CopiesLeft, LeavesCopies, LetsCopyGoOn}
 use Rattle.proof_resume.specs.Finish.Counts.{is_working}
 use Rattle.proof_resume.specs.Finish.Prompt.{came_at_once}
-use Rattle.proof_resume.specs.Finish.Walks.{StandsFor}
+use Rattle.proof_migration.specs.Program.Turns.Goes.{StandsFor}
 use Rattle.proof_resume.specs.Reached.Checkpoints.{checkpoint_stored}
 use Rattle.proof_resume.specs.Settled.Laws.{SettledIn}
 use Rattle.proof_resume.specs.Settled.Ranges.{rows_now}

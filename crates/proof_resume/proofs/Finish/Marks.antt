@@ -1,14 +1,13 @@
 -- The RENAME is done at most once: behind one of the run's the new table isn't listed, and the new tool exchanges the tables once at most.
-use Rattle.std.proofs.Common.{◌≡◌, ◌≤◌, ◌⊎◌, ℕ, ◌+◌, ◌==◌, not, Bool, true, false, ◌&&◌, List, [], ◌∷◌, ◌++◌, cond, Option, Some, None, refl, sym, ap, ◌∙◌, subst, inl, inr, arith, append_assoc, append-nil}
+use Rattle.std.proofs.Common.{◌≡◌, ◌≤◌, ◌⊎◌, ℕ, ◌+◌, ◌==◌, not, Bool, true, false, ◌&&◌, List, [], ◌∷◌, ◌++◌, cond, Option, Some, None, refl, sym, ap, ◌∙◌, subst, inl, inr, append_assoc, append-nil}
 use Rattle.std.specs.Prelude.{count_by, is_some, length}
 use Rattle.std.specs.List.{list_any}
 use Rattle.std.proofs.lemmas.Bool.{true≢false}
-use Rattle.std.proofs.lemmas.List.Sums.{sum_by-append}
 use Rattle.std.proofs.Math.Seq.{drop-append_seam}
 use Rattle.base_values.specs.ToolNames.{ghost_name, log_name, old_name}
 use Rattle.base_script.specs.declared.actor.Actor.{Actor}
 use Rattle.base_script.specs.declared.actor.Actor.TheVariants.{Op, Insp, Copy, Apply, Lock, Ren, Client}
-use Rattle.server_model.specs.Along.{Along, gathered, gathered-more}
+use Rattle.server_model.specs.Along.{Along, Along-keeps}
 use Rattle.server_model.specs.Entries.{is_client, is_command, is_cut}
 use Rattle.server_model.specs.Listings.{tables_shown}
 use Rattle.server_model.specs.PlainServer.{did, done}
@@ -67,8 +66,8 @@ use Rattle.proof_migration.proofs.Once.Past.{goes_past, GoesPast, IsPast, ToolPh
 use Rattle.proof_migration.proofs.Once.Renames.{renamed_past, unaltered_more}
 use Rattle.proof_migration.proofs.Once.Whole.{come_once}
 use Rattle.proof_migration.proofs.Program.Turns.Follows.{kept_front, kept_run}
+use Rattle.proof_migration.proofs.ToolPhase.Marked.{none_yet, once_more}
 use Rattle.proof_migration.proofs.ToolPhase.Unaltered.Away.{all_asked}
-use Rattle.proof_migration.proofs.ToolPhase.Unaltered.Runs.{none_counted}
 use Rattle.proof_resume.specs.Finish.Marks.{FinishesAlterOnce}
 use Rattle.proof_resume.proofs.Finish.Holders.{any_own, nothing_outside}
 use Rattle.proof_resume.proofs.Finish.Owners.{Owners}
@@ -98,12 +97,12 @@ module _ (plan : PlanData) (runs : IsRunnable plan) (serial : IsSerialPlan plan)
       let later : IsKept plan ((some ++ entry ∷ []) ++ journal) = subst (IsKept plan) (sym all) kept in
       subst PastOr all (past_so (some ++ entry ∷ []) journal later (past_more some entry (kept_front plan (some ++ entry ∷ []) journal later) past))
 
-  none_yet : IsUnaltered plan []
+  unaltered_first : IsUnaltered plan []
   unfolding history
-  none_yet = refl
+  unaltered_first = refl
 
   pub run_past : (run : List Entry) → IsKept plan run → PastOr run
-  run_past run kept = past_so [] run kept (inl none_yet)
+  run_past run kept = past_so [] run kept (inl unaltered_first)
 
 -- WHAT IS LISTED
 
@@ -151,18 +150,8 @@ module _ (plan : PlanData) (journal : List Entry) (entry : Entry) where
   alters_none request (Some (answers.Ok count)) off = ap (λ (b : Bool). list_any is_alter (cond b (Alter ∷ []) [])) off
   alters_none request given off = refl
 
-  alters_once : (request : Option Request) (given : Option Answer) → count_by is_alter (alters plan request given) ≤ 1
-  alters_once request (Some (answers.Ok count)) = by (renames_away plan.table request) where
-    by : (b : Bool) → count_by is_alter (cond b (Alter ∷ []) []) ≤ 1
-    by true = omega arith
-    by false = omega arith
-  alters_once request given = omega arith
-
   adds_none : list_any is_alter own_adds ≡ false → list_any is_alter (entry_adds plan journal entry) ≡ false
   adds_none off = adds_case (λ items. list_any is_alter items ≡ false) (λ items none. none) off entry.actor
-
-  adds_once : count_by is_alter (entry_adds plan journal entry) ≤ 1
-  adds_once = adds_case (λ items. count_by is_alter items ≤ 1) (λ items none. subst (λ (n : ℕ). n ≤ 1) (sym (none_counted items none)) (omega arith)) (alters_once (histories.about journal entry) (answer_in entry.asked entry.side entry.answer entry.missed)) entry.actor
 
   -- a call that renames no migrated table
   call_none : (request : Request) → entry.asked ≡ Call request → renames_away plan.table (Some request) ≡ false → list_any is_alter (entry_adds plan journal entry) ≡ false
@@ -179,17 +168,6 @@ module _ (plan : PlanData) (journal : List Entry) (entry : Entry) where
     by (Call request) cut = absurd (true≢false (sym cut))
     by Poll cut = absurd (true≢false (sym cut))
     by (Command word) cut = absurd (true≢false (sym cut))
-
-  -- *Once at most*, where nothing was altered before
-  once_more : count_by is_alter (history plan journal) ≤ 1 → (list_any is_alter (entry_adds plan journal entry) ≡ true → IsUnaltered plan journal) → count_by is_alter (history plan (journal ++ entry ∷ [])) ≤ 1
-  unfolding history
-  once_more once first =
-      subst (λ (n : ℕ). n ≤ 1)
-      (sym (ap (count_by is_alter) (gathered-more (entry_adds plan) [] journal entry) ∙ sum_by-append (λ item. cond (is_alter item) 1 0) (gathered (entry_adds plan) [] journal) (entry_adds plan journal entry)))
-      (by (list_any is_alter (entry_adds plan journal entry)) refl) where
-        by : (b : Bool) → list_any is_alter (entry_adds plan journal entry) ≡ b → count_by is_alter (gathered (entry_adds plan) [] journal) + count_by is_alter (entry_adds plan journal entry) ≤ 1
-        by true is = subst (λ (n : ℕ). n + count_by is_alter (entry_adds plan journal entry) ≤ 1) (sym (none_counted (history plan journal) (first is))) (let most : count_by is_alter (entry_adds plan journal entry) ≤ 1 = adds_once in omega (arith, most))
-        by false is = subst (λ (n : ℕ). count_by is_alter (gathered (entry_adds plan) [] journal) + n ≤ 1) (sym (none_counted (entry_adds plan journal entry) is)) (let most : count_by is_alter (gathered (entry_adds plan) [] journal) ≤ 1 = once in omega (arith, most))
 
 -- the machines make, drop and rename no table
 abbrev pub is_quiet_if : Option Request → Bool
@@ -440,18 +418,10 @@ marked_begins plan run runs serial kept once = record {
   by true first = first
   by false first = first
 
--- the run's own turns alter once at most
-run_once : (plan : PlanData) → IsRunnable plan → IsSerialPlan plan → (some journal : List Entry) → Along (λ before one. list_any is_alter (entry_adds plan before one) ≡ true → IsUnaltered plan before) some journal → count_by is_alter (history plan some) ≤ 1 → count_by is_alter (history plan (some ++ journal)) ≤ 1
-run_once plan runs serial some [] firsts once = subst (λ (j : List Entry). count_by is_alter (history plan j) ≤ 1) (sym (append-nil some)) once
-run_once plan runs serial some (entry ∷ journal) firsts once =
-    subst (λ (j : List Entry). count_by is_alter (history plan j) ≤ 1) (append_assoc some (entry ∷ []) journal) (run_once plan runs serial (some ++ entry ∷ []) journal firsts.1 (once_more plan some entry once firsts.0))
-
-none_at_all : (plan : PlanData) → count_by is_alter (history plan []) ≤ 1
-unfolding history
-none_at_all plan = omega arith
-
 pub marked_run : (plan : PlanData) (run : List Entry) → IsRunnable plan → IsSerialPlan plan → IsKept plan run → GoesMarked plan run []
-marked_run plan run runs serial kept = marked_begins plan run runs serial kept (run_once plan runs serial [] run (come_once definitions_are_done plan run runs serial kept) (none_at_all plan))
+marked_run plan run runs serial kept =
+    marked_begins plan run runs serial kept
+    (Along-keeps (λ before one. list_any is_alter (entry_adds plan before one) ≡ true → IsUnaltered plan before) (λ all. count_by is_alter (history plan all) ≤ 1) (λ all entry first once. once_more plan all entry once first) [] run (come_once definitions_are_done plan run runs serial kept) (none_yet plan))
 
 pub finish_marked : (plan : PlanData) (run turns : List Entry) → IsRunnable plan → IsSerialPlan plan → IsKept plan run → IsFinish plan run turns → IsFaithful plan (run ++ turns) → GoesMarked plan run turns
 finish_marked plan run turns runs serial kept finish faithful =

@@ -27,7 +27,7 @@ use Rattle.server_model.proofs.LockedRows.Tests.{same_number, are_one}
 use Rattle.plan_data.specs.PlanData.{PlanData}
 use Rattle.tool_program.specs.JournalWords.Clients.{client_asks, client_at, line_asks, script_of, word_asks}
 use Rattle.tool_program.specs.JournalWords.KeptPlans.{words_of}
-use Rattle.tool_program.specs.JournalWords.Journals.{after_entry, heard, inner_answer, opening, opens, state_after, state_at, IsAnswered}
+use Rattle.tool_program.specs.JournalWords.Journals.{after_entry, heard, inner_answer, opening, opens, state_after, state_at, IsAnswered, IsFaithful}
 use Rattle.tool_program.specs.JournalWords.Sessions.{live_session, session_left, IsSeated, KeepsSessions}
 use Rattle.tool_program.specs.Orders.{actors, clients_from}
 use Rattle.tool_program.specs.Programs.{commands, given, IsFollowed, IsGiven, Follows}
@@ -290,14 +290,17 @@ owners_begin : (plan : PlanData) → Owners plan []
 unfolding live_session state_after
 owners_begin plan = record { both = record { known = sessions_begin; living = living_begin plan }; owned = record { operator = refl; planned = λ c none. refl; owned = λ k none. refl } }
 
--- *The sessions of a kept run are its actors'*
-pub run_owners : (plan : PlanData) (run : List Entry) → IsKept plan run → Owners plan run
+-- *The sessions of a journal that follows the program are its actors'*
+pub owners_of : (plan : PlanData) (run : List Entry) → IsFaithful plan run → KeepsSessions run → Follows plan run → Owners plan run
 unfolding KeepsSessions Follows
-run_owners plan run kept =
+owners_of plan run faithful sessions follows =
     Along-keeps (λ before entry. (IsAnswered (state_at plan before) entry × IsSeated before entry) × IsFollowed plan before entry) (Owners plan)
     (λ before entry turn owners. owners_more plan before entry turn.0 (followed_of_plan plan before entry turn.1) owners) [] run
     (Along-both (λ before entry. IsAnswered (state_at plan before) entry × IsSeated before entry) (IsFollowed plan) [] run
-    (Along-both (λ before entry. IsAnswered (state_at plan before) entry) IsSeated [] run kept.faithful kept.sessions) kept.follows) (owners_begin plan)
+    (Along-both (λ before entry. IsAnswered (state_at plan before) entry) IsSeated [] run faithful sessions) follows) (owners_begin plan)
+
+pub run_owners : (plan : PlanData) (run : List Entry) → IsKept plan run → Owners plan run
+run_owners plan run kept = owners_of plan run kept.faithful kept.sessions kept.follows
 
 -- WHERE NO ACTOR HAS A SESSION
 

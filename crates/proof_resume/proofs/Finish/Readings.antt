@@ -65,15 +65,14 @@ use Rattle.proof_journals.specs.Scenes.{Stored}
 use Rattle.proof_journals.specs.Turns.{reported_at}
 use Rattle.proof_journals.proofs.Actors.{placed}
 use Rattle.proof_journals.proofs.Journals.{stored_opened}
-use Rattle.proof_journals.proofs.Run.Living.{own_kind}
 use Rattle.proof_migration.specs.Program.Turns.Laws.{IsMigrationOf}
 use Rattle.proof_migration.specs.ToolPhase.Unaltered.{IsUnaltered}
+use Rattle.proof_migration.proofs.ToolServes.{session_of_tool, filled_so}
 use Rattle.proof_migration.proofs.Attempt.Leaving.{has_is}
 use Rattle.proof_migration.proofs.KeptJournals.{each_kept}
 use Rattle.proof_migration.proofs.Program.InspectorTurns.Keeping.{LogStands, ToolPhaseFits, all_fit}
 use Rattle.proof_migration.proofs.Program.Turns.Follows.{kept_run}
 use Rattle.proof_migration.proofs.ToolPhase.CopyAnswers.{not_outside}
-use Rattle.proof_migration.proofs.ToolServes.{filled_so}
 use Rattle.proof_bounds.specs.AttemptTurns.Attempts.{MayTry}
 use Rattle.proof_plain.specs.Plans.{IsShort, PlainPlan}
 use Rattle.proof_plain.proofs.Journals.{short_front}
@@ -83,7 +82,6 @@ use Rattle.proof_resume.proofs.Finish.Holders.{any_own, opened_held, IsFreeBut, 
 use Rattle.proof_resume.proofs.Finish.Owners.{Owners}
 use Rattle.proof_resume.proofs.Finish.Prompt.{after_is, alone_begins, alone_more, answer_is, finish_turns, its_actor, its_request, lost_cut, GoesAlone, StandsAlone}
 use Rattle.proof_resume.proofs.Finish.Verdicts.{none_locked}
-use Rattle.proof_resume.proofs.Finish.Walks.{kind_of_tool}
 use Rattle.proof_resume.proofs.Reached.Existing.{checkpoints_exist}
 use Rattle.proof_resume.proofs.Reached.Lasting.{log_lasts}
 use Rattle.proof_resume.proofs.Reached.Written.{last_more}
@@ -294,7 +292,7 @@ module _ (plan : PlanData) (run : List Entry) (leaves : LogReads plan run) (jour
   -- THE CHECKPOINT IS READ
 
   of_tool : is_command entry.asked ≡ false → is_client entry.actor ≡ false → is_of_tool (session_of n open_now.sessions) ≡ true
-  of_tool called tool = kind_of_tool (session_of n open_now.sessions) (own_kind journal now entry owners.both.living owners.both.known (placed journal entry in_own) answered called ∙ ap (λ (b : Bool). Some (not b)) tool)
+  of_tool = session_of_tool journal now entry owners.both.living owners.both.known (placed journal entry in_own) answered
 
   first_read : (found : List Row) (row : Row) → first_of found ≡ Some row → is_some (checkpoint_of row) ≡ true → is_some (checkpoint_in (answers.Rows found)) ≡ true
   first_read [] row first reads = absurd (cc)

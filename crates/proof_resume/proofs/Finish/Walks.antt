@@ -1,7 +1,6 @@
 -- Over the copier's and the applier's turns the migration stands, so that the new table is the altered one when the tables are exchanged.
-use Rattle.std.proofs.Common.{◌≡◌, ℕ, ◌+◌, ◌==◌, Bool, true, false, ◌&&◌, ◌||◌, not, List, [], ◌∷◌, ◌++◌, length, drop, cond, Option, Some, None, refl, sym, ap, ◌∙◌, subst, append_assoc, append-nil, arith}
+use Rattle.std.proofs.Common.{◌≡◌, ℕ, ◌+◌, ◌==◌, Bool, true, false, ◌&&◌, ◌||◌, List, [], ◌∷◌, ◌++◌, length, drop, cond, Option, Some, None, refl, sym, ap, ◌∙◌, subst, append_assoc, append-nil, arith}
 use Rattle.std.specs.Prelude.{count_by, is_some}
-use Rattle.std.specs.Option.{option_map}
 use Rattle.std.specs.Str.{bytes_eq}
 use Rattle.std.proofs.lemmas.Bool.{false≢true}
 use Rattle.std.proofs.lemmas.Bool.Decides.{nat_tests}
@@ -22,11 +21,10 @@ use Rattle.server_model.specs.declared.entry.Entry.{Entry}
 use Rattle.server_model.specs.declared.outcome.Progress.{Progress}
 use Rattle.server_model.specs.declared.outcome.Progress.TheVariants.{Going, TaskDone, TaskFailed, Unfit}
 use Rattle.server_model.specs.declared.request.Request.{Request}
-use Rattle.server_model.specs.declared.session.Session.{Session}
 use Rattle.server_model.specs.Entries.{is_client, is_command, is_cut, same_actor}
 use Rattle.server_model.specs.States.{State, is_of, is_of_tool, session_of, unread}
 use Rattle.server_model.proofs.LockedRows.Tests.{turned}
-use Rattle.plan_data.specs.PlanData.{PlanData}
+use Rattle.plan_data.specs.PlanData.{PlanData, has_counter}
 use Rattle.tool_notes.specs.declared.checkpoint.Checkpoint.{Checkpoint}
 use Rattle.tool_program.specs.CutoverCore.Attempts.{exchange}
 use Rattle.tool_program.specs.JournalWords.Journals.{opens, state_at, IsAnswered, IsFaithful}
@@ -45,7 +43,6 @@ use Rattle.tool_finish.specs.declared.stage.Listed.TheVariants.{NotRenamed, Rena
 use Rattle.tool_finish.specs.Finishes.{applied, applier_from, applying, checkpoint_in, copied, copier_from, copying, counter_read, counting, dropped_log, has_read, listed, next, ranged, stage_behind, took, IsFinish, IsFinishTurn}
 use Rattle.tool_finish.specs.Finishes as finishes
 use Rattle.tool_finish.proofs.Walking.{stage_more}
-use Rattle.plan_data.specs.PlanData.{has_counter}
 use Rattle.proof_journals.specs.Ghost.Copies.{IsAltered}
 use Rattle.proof_journals.specs.Ghost.HeldKeys.{Clustered}
 use Rattle.proof_journals.specs.Ghost.Rows.Moments.{Row}
@@ -58,18 +55,19 @@ use Rattle.proof_journals.proofs.Actors.{live_more, placed, same_actor_itself, P
 use Rattle.proof_journals.proofs.Machine.Calling.{served_along}
 use Rattle.proof_journals.proofs.Machine.Seated.{all_known, IsKnown}
 use Rattle.proof_journals.proofs.PlanJournals.{plan_runs_are_scene_runs}
-use Rattle.proof_journals.proofs.Run.Living.{own_kind}
 use Rattle.proof_migration.specs.Migration.Machines.{MigrationStands, applier_turns, copier_turns}
 use Rattle.proof_migration.specs.Migration.Planning.{migration_of}
 use Rattle.proof_migration.specs.Program.Turns.Laws.{IsMigrationOf}
 use Rattle.proof_migration.specs.ToolPhase.Runnable.{IsAlterable}
+use Rattle.proof_migration.proofs.ToolServes.{session_of_tool}
 use Rattle.proof_migration.proofs.Migration.Migrating.{ends, turns_keep}
 use Rattle.proof_migration.proofs.Program.Turns.ActorStates.{actor_state_apart, actor_state_before, actor_state_own, some_actor_states, SomeActorStates}
-use Rattle.proof_migration.proofs.Program.Turns.Goes.{in_scene}
+use Rattle.proof_migration.proofs.Program.Turns.Takes.{in_scene}
 use Rattle.proof_migration.proofs.Program.Turns.Others.{ghost_named}
 use Rattle.proof_migration.proofs.ToolPhase.Marked.{renames_so}
 use Rattle.proof_resume.specs.Finish.Prompt.{came_at_once}
-use Rattle.proof_resume.specs.Finish.Walks.{machines_of, FinishesAlter, StandsFor, StartsRight}
+use Rattle.proof_migration.specs.Program.Turns.Goes.{machines_of, StandsFor}
+use Rattle.proof_resume.specs.Finish.Walks.{FinishesAlter, StartsRight}
 use Rattle.proof_resume.proofs.Finish.Machines.{IsApplierOf, IsCopierOf}
 use Rattle.proof_resume.proofs.Finish.Owners.{heard_left, IsHeard, Owners}
 use Rattle.proof_resume.proofs.Finish.Prompt.{alone_more, finish_turns, its_actor, its_request}
@@ -100,10 +98,6 @@ reading_of (batches.Committing batch) is = absurd (false≢true is)
 at_once_heard : (answer : Answer) → came_at_once answer ≡ true → IsHeard answer
 at_once_heard answers.Lost is = false≢true is
 at_once_heard other is = tt
-
-pub kind_of_tool : (session : Option Session) → option_map (λ (s : Session). s.is_tool) session ≡ Some true → is_of_tool session ≡ true
-kind_of_tool None is = absurd (cc)
-kind_of_tool (Some session) is = cc
 
 module _ (plan : PlanData) (is : IsAlterable plan) (at : Clustered is.table.schema) (rows : List Row) (of : IsMigrationOf plan (migration_of is.table.schema is.new) rows) where
   abbrev m : Migration
@@ -152,9 +146,7 @@ module _ (plan : PlanData) (is : IsAlterable plan) (at : Clustered is.table.sche
     its_session request called actor same session may = subst (MayTake more session) (live_after request called actor same) may
 
     of_tool : (request : Request) → entry.asked ≡ Call request → is_client entry.actor ≡ false → is_of_tool (session_of n (opens entry (state_at plan journal)).sessions) ≡ true
-    of_tool request called tool =
-        kind_of_tool (session_of n (opens entry (state_at plan journal)).sessions)
-        (own_kind journal (state_at plan journal) entry owners.both.living owners.both.known where_placed answered (ap is_command called) ∙ ap (λ (b : Bool). Some (not b)) tool)
+    of_tool request called tool = session_of_tool journal (state_at plan journal) entry owners.both.living owners.both.known where_placed answered (ap is_command called) tool
 
     copier_takes : (copier : Copier) (applier : Applier) (request : Request) → IsCopierOf plan copier → entry.actor ≡ Copy → entry.asked ≡ Call request → copiers.next journal copier ≡ Some request → ((place number : ℕ) → copiers.progress copier entry.answer ≡ Unfit place number → ⊥)
         → StandsFor plan m at rows journal copier applier → StandsFor plan m at rows more (copiers.took (length journal + 1) copier entry.answer) applier

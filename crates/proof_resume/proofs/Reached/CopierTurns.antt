@@ -1,7 +1,6 @@
 -- What each turn of the copier keeps, a rule for every fact of it: where it stays, begins its chunk again, gets another size of chunks, or
 -- takes its turn.
-use Rattle.std.proofs.Common.{◌≡◌, ℕ, ◌+◌, ◌<◌, Bool, true, false, cond, List, [], ◌∷◌, ◌++◌, length, refl, sym, ap, ◌∙◌, subst}
-use Rattle.std.specs.Prelude.{◌&&◌}
+use Rattle.std.proofs.Common.{◌≡◌, ℕ, ◌+◌, ◌<◌, Bool, true, false, List, [], ◌∷◌, ◌++◌, length, refl, sym, ap, ◌∙◌, subst}
 use Rattle.base_values.specs.ToolNames.{ghost_name}
 use Rattle.base_script.specs.declared.actor.Actor.{Actor}
 use Rattle.base_script.specs.declared.actor.Actor.TheVariants.{Op, Insp, Copy, Apply, Lock, Ren, Client}
@@ -12,36 +11,31 @@ use Rattle.server_model.specs.declared.entry.Asked.TheVariants.{Call, Poll, Comm
 use Rattle.server_model.specs.declared.entry.Entry.{Entry}
 use Rattle.server_model.specs.declared.outcome.Progress.TheVariants.{Unfit}
 use Rattle.server_model.specs.declared.request.Request.{Request}
-use Rattle.server_model.specs.Entries.{is_client, is_cut}
+use Rattle.server_model.specs.Entries.{is_cut}
 use Rattle.plan_data.specs.PlanData.{PlanData}
-use Rattle.tool_program.specs.JournalWords.Sessions.{live_session}
 use Rattle.tool_program.specs.declared.chunk_copier.copier.Copier.{Copier}
 use Rattle.tool_program.specs.declared.chunk_copier.copier.CopyStep.TheVariants.{Choosing, Spanning}
 use Rattle.tool_program.specs.ChunkCopier.Copiers as copiers
 use Rattle.tool_program.specs.ChunkCopier.Copiers.{resized}
-use Rattle.tool_program.specs.Operators.{is_throttled}
-use Rattle.tool_program.specs.Programs.{copy_call, given, rolls_back, tool_call}
+use Rattle.tool_program.specs.Programs.{given}
 use Rattle.tool_program.specs.Tools.{ToolPhase, SettingUp, Migrating, Tool, Work, is_reverting, moment, stopped}
-use Rattle.tool_program.proofs.OnlineCalls.Machines.{ToolPhaseIsNamed, named}
 use Rattle.proof_journals.specs.Plans.{limits_of, scene_of}
 use Rattle.proof_journals.specs.Turns.{IsReported, IsSceneRun}
 use Rattle.proof_journals.specs.Run.Kept.{IsKept}
-use Rattle.proof_journals.specs.Machine.Standings.{IsAbout, is_called, is_polled, standing_of}
 use Rattle.proof_journals.specs.Ghost.HeldKeys.{Clustered}
 use Rattle.proof_journals.specs.Ghost.Rows.Moments.{Row}
 use Rattle.proof_journals.specs.Ghost.Rows.Timelines.{Migration}
-use Rattle.proof_journals.proofs.Machine.Asking.{unless_called}
-use Rattle.proof_journals.proofs.Machine.Journals.{Asking, IsRun, IsTogether, asking, calls_so, polls_so}
+use Rattle.proof_journals.proofs.Machine.Journals.{IsRun, IsTogether}
 use Rattle.proof_journals.proofs.Ghost.Turns.{along_next, run_front}
 use Rattle.proof_migration.specs.ToolPhase.Unaltered.{IsUnaltered}
 use Rattle.proof_migration.specs.Migration.Copier.Laws.{IsCopierTurn}
-use Rattle.proof_migration.specs.Program.Turns.Goes.{CopyWaits}
+use Rattle.proof_migration.specs.Migration.Machines.{IsCopierTurn as MachineTurn}
+use Rattle.proof_migration.specs.Program.Turns.Goes.{Goes}
 use Rattle.proof_migration.specs.Program.Turns.Laws.{GoesSomehow, IsMigrationOf}
-use Rattle.proof_migration.proofs.ToolServes.{about_uncommanded, tool_serves}
 use Rattle.proof_migration.proofs.ToolPhase.ToolPhaseTurns.{AnswerKeeps, CopyKeeps, DrainKeeps, Kept, ResizeKeeps, TurnKeeps, UnfitKeeps, turn_kept}
 use Rattle.proof_migration.proofs.ToolPhase.Unaltered.Away.{IsKnownAsked, all_asked}
-use Rattle.proof_migration.proofs.Program.Turns.ActorStates.{SomeActorStates, some_actor_states}
-use Rattle.proof_migration.proofs.Program.Turns.Asked.{about_called, gave}
+use Rattle.proof_migration.proofs.Program.Turns.NextCalls.{CopyAsks, chunks_sized}
+use Rattle.proof_migration.proofs.Program.Turns.Takes.{copier_turn, copy_asks}
 use Rattle.proof_migration.proofs.Program.Turns.Follows.{kept_front, kept_run, kept_scene}
 use Rattle.proof_migration.proofs.Program.Turns.Others.{ghost_named}
 use Rattle.proof_migration.proofs.Program.Turns.Sizes.{Sized, same_so, sized_took, spans_so}
@@ -84,76 +78,40 @@ module _ (plan : PlanData) (m : Migration) (at : Clustered m.schema) (rows : Lis
   scene_run : IsSceneRun (limits_of plan) (scene_of plan more) more
   scene_run = kept_scene plan m rows of more kept off
 
-  -- where nothing is reverted its chunks have rows
-  sized : (it : GoesSomehow plan m at rows journal) → it.work ≡ work → 0 < work.copier.size
-  sized it same =
-      let some : SomeActorStates journal = some_actor_states journal together.known.sessions in
-      subst (λ (w : Work). 0 < w.copier.size) same (it.goes.stands some.copier some.applier some.actor_states).copier_knows.sized
-
-  record CopyAsks : Type 0 where
-    request : Request
-    is_about : IsAbout request (standing_of plan journal Copy) entry.asked
-    waits : CopyWaits journal work.copier request
-
-  copy_asks : entry.actor ≡ Copy → is_cut entry.asked ≡ false → is_reverting (moment plan journal).tool.reason ≡ false → CopyAsks
-  unfolding given
-  copy_asks same uncut going = by (asking plan journal Copy entry.asked together.server (gave plan of.serial of.runs.fitting journal entry known run off Copy same uncut)) where
-    it : GoesSomehow plan m at rows journal
-    it = goes going
-
-    same_work : it.work ≡ work
-    same_work = let both : Migrating it.work ≡ Migrating work = sym it.tool_phase ∙ tool_phase in cc
-
-    by : Asking plan journal Copy entry.asked → CopyAsks
-    by (calls_so request asks idle call) =
-        record {
-          request = request;
-          is_about = is_called asks idle;
-          waits = record {
-            size = work.copier.size;
-            some = sized it same_work;
-            next =
-                unless_called (copiers.starts work.copier && is_throttled plan (moment plan journal).server (moment plan journal).tool.operator) (copiers.next journal work.copier) request
-                (ap (λ (b : Bool). cond b (rolls_back (moment plan journal).server (live_session journal Copy)) (copy_call plan (moment plan journal).server journal (moment plan journal).tool work)) (sym going)
-                ∙ ap (λ (c : ToolPhase). tool_call plan (moment plan journal).server journal (moment plan journal).tool c Copy) (sym tool_phase) ∙ call);
-          };
-        }
-    by (polls_so request asks some) = record { request = request; is_about = is_polled asks some; waits = subst (λ (w : Work). CopyWaits journal w.copier request) same_work (it.goes.copy_waits request some) }
+  -- where nothing is reverted the migration goes with this work
+  goes_so : is_reverting (moment plan journal).tool.reason ≡ false → Goes plan m at rows journal work
+  goes_so going = subst (Goes plan m at rows journal) (let both : Migrating (goes going).work ≡ Migrating work = sym (goes going).tool_phase ∙ tool_phase in cc) (goes going).goes
 
   sized_from : (one other : Copier) → 0 < one.size → Sized one other → P one → P other
   sized_from one other some (same_so same) is = subst P same is
   sized_from one other some (spans_so reported old here same) is = subst P (sym same) (spans one reported old one.size some here is)
 
   copy_turns : entry.actor ≡ Copy → is_cut entry.asked ≡ false → is_reverting (moment plan journal).tool.reason ≡ false → ((place number : ℕ) → copiers.progress work.copier entry.answer ≡ Unfit place number → ⊥) → P (copiers.took (length journal + 1) work.copier entry.answer)
-  unfolding copiers.progress
   copy_turns same uncut going fits =
-      sized_from (resized work.copier.size (copiers.took (length journal + 1) one entry.answer)) (copiers.took (length journal + 1) work.copier entry.answer) (sized it same_work) (sized_took (length journal + 1) (asks.waits).size work.copier entry.answer)
-      (size_set (copiers.took (length journal + 1) one entry.answer) work.copier.size (turns (asks.waits).size asks.request turn (asks.waits).some)) where
-        asks : CopyAsks
-        asks = copy_asks same uncut going
+      sized_from (resized work.copier.size (copiers.took (length journal + 1) one entry.answer)) (copiers.took (length journal + 1) work.copier entry.answer) (chunks_sized plan m at rows journal entry.asked together work tool_phase going (goes_so going)) (sized_took (length journal + 1) (asks.waits).size work.copier entry.answer)
+      (size_set (copiers.took (length journal + 1) one entry.answer) work.copier.size (turns (asks.waits).size is.request turn (asks.waits).some)) where
+        asks : CopyAsks plan journal entry.asked work.copier
+        asks = copy_asks plan m at rows of journal entry kept off work tool_phase going (goes_so going) same uncut
 
         one : Copier
         one = resized (asks.waits).size work.copier
 
-        it : GoesSomehow plan m at rows journal
-        it = goes going
+        is : MachineTurn m (limits_of plan) (scene_of plan more) journal entry one entry.session
+        is = copier_turn plan m at rows of journal entry kept off work tool_phase going (goes_so going) same uncut fits
 
-        same_work : it.work ≡ work
-        same_work = let both : Migrating it.work ≡ Migrating work = sym it.tool_phase ∙ tool_phase in cc
-
-        turn : IsCopierTurn m (limits_of plan) (scene_of plan more) journal entry one asks.request
+        turn : IsCopierTurn m (limits_of plan) (scene_of plan more) journal entry one is.request
         turn = record {
           run = run_front (limits_of plan) (scene_of plan more) journal (entry ∷ []) scene_run;
           more = scene_run;
           reported = along_next (IsReported (limits_of plan) (scene_of plan more)) [] journal entry [] scene_run.reported;
-          table = (subst (ToolPhaseIsNamed plan) tool_phase (named plan journal)).copier ∙ sym of.of.name;
+          table = is.table;
           new_name = ghost_named plan m of.of ∙ ap ghost_name (sym of.of.name);
-          map = subst (λ (w : Work). w.copier.map ≡ m.columns) same_work it.goes.map;
-          asked = about_called plan of.serial of.runs.fitting journal entry known run off Copy asks.request same asks.is_about;
-          tool = tool_serves plan journal entry before together run (about_uncommanded asks.request (standing_of plan journal Copy) entry.asked asks.is_about) (ap is_client same);
-          given = (asks.waits).next;
-          uncut = uncut;
-          fits = fits;
+          map = is.map;
+          asked = is.asked;
+          tool = is.tool;
+          given = is.given;
+          uncut = is.uncut;
+          fits = is.fits;
         }
 
   abbrev counted : Tool

@@ -31,18 +31,15 @@ use Rattle.tool_changelog.specs.Hints.{hint_row, last_hint}
 use Rattle.tool_changelog.specs.ToolTables.{first_is_primary, log_schema}
 use Rattle.tool_program.specs.JournalWords.Journals.{opens, state_at}
 use Rattle.tool_program.specs.NoteWriter.Notes.{is_checkpoint, notes_of, writes}
-use Rattle.tool_program.specs.declared.cutover_core.cutover.Clearing.{Clearing as Cleared}
-use Rattle.tool_program.specs.declared.cutover_core.cutover.Clearing.TheVariants.{Looking, Drops}
-use Rattle.tool_program.specs.declared.cutover_core.cutover.CutOver.{CutOver}
 use Rattle.tool_program.specs.declared.cutover_core.cutover.Phase.{Phase}
-use Rattle.tool_program.specs.declared.cutover_core.cutover.Phase.TheVariants.{Resting, Attempting, Ending, Finishing, Finished}
-use Rattle.tool_program.specs.declared.cutover_core.cutover.Role.TheVariants.{Inspector}
-use Rattle.tool_program.specs.declared.cutover_core.cutover.Stage.TheVariants.{Hinting, ReadingCounter, SettingCounter, Showing}
+use Rattle.tool_program.specs.declared.cutover_core.cutover.Phase.TheVariants.{Resting, Attempting}
+use Rattle.tool_program.specs.declared.cutover_core.cutover.Stage.TheVariants.{Hinting}
 use Rattle.tool_program.specs.CutoverCore.Attempts as attempts
-use Rattle.tool_program.specs.CutoverCore.Attempts.{clears, is_free, writes_hint}
-use Rattle.tool_program.specs.Programs.{given, reach_in, tool_call}
-use Rattle.tool_program.specs.Setups.{Setup, Listing, Clearing, MakingLog, MakingGhost, Marking, Reaching, Ready, setup_after, setup_call, setup_step}
-use Rattle.tool_program.specs.Tools.{ToolPhase, SettingUp, Migrating, Moment, Tool, Work, is_reverting, moment, stopped, tool_phase_of}
+use Rattle.tool_program.specs.CutoverCore.CutOvers.{is_resting}
+use Rattle.tool_program.specs.CutoverCore.Attempts.{writes_hint}
+use Rattle.tool_program.specs.Programs.{reach_in, tool_call}
+use Rattle.tool_program.specs.Setups.{Setup}
+use Rattle.tool_program.specs.Tools.{ToolPhase, SettingUp, Migrating, Moment, Tool, Work, is_reverting, moment}
 use Rattle.tool_program.proofs.OnlineCalls.Machines.{ToolPhaseIsNamed, named}
 use Rattle.proof_journals.specs.Plans.{IsSerialPlan}
 use Rattle.proof_journals.specs.Turns.{about, reported_at}
@@ -51,35 +48,31 @@ use Rattle.proof_journals.specs.Run.Kept.{IsKept}
 use Rattle.proof_journals.specs.Machine.Runnable.{IsRunnable}
 use Rattle.proof_journals.specs.Machine.Standings.{standing_of}
 use Rattle.proof_journals.proofs.Actors.{same_actor_is}
-use Rattle.proof_journals.proofs.Machine.Asking.{some_request, unless_called}
 use Rattle.proof_journals.proofs.Machine.Inspecting.{Inspects, inspects, notes_so, cuts_so}
-use Rattle.proof_journals.proofs.Machine.Journals.{Asking, IsRun, IsTogether, asking, calls_so, polls_so}
+use Rattle.proof_journals.proofs.Machine.Journals.{IsRun, IsTogether}
 use Rattle.proof_migration.specs.Program.Hints.{IsBegun, is_unhinted}
 use Rattle.proof_migration.specs.ToolPhase.Unaltered.{IsUnaltered}
-use Rattle.proof_migration.proofs.Attempt.Leaving.{has_is}
 use Rattle.proof_migration.proofs.KeptJournals.{each_kept}
 use Rattle.proof_migration.proofs.Migration.Leaves.{WritesAway}
-use Rattle.proof_migration.proofs.Program.Hints.Asked.{known, scene_run, setup_away}
+use Rattle.proof_migration.proofs.Program.Hints.Asked.{known, scene_run}
 use Rattle.proof_migration.proofs.Program.Hints.Known.{hints_go, hints_known}
 use Rattle.proof_migration.proofs.Program.Hints.Logging.{NoneWrote, watched}
 use Rattle.proof_migration.proofs.Program.InspectorTurns.Hints.{hint_insert}
 use Rattle.proof_migration.proofs.Program.InspectorTurns.Keeping.{LogStands, ToolPhaseFits as LogFits, all_fit, past_log}
-use Rattle.proof_migration.proofs.Program.Turns.Asked.{asked_as, waits_with}
+use Rattle.proof_migration.proofs.Program.Turns.Asked.{asked_as}
 use Rattle.proof_migration.proofs.Program.Turns.Follows.{kept_front, kept_run}
-use Rattle.proof_migration.proofs.ToolPhase.ToolPhaseTurns.{AnswerKeeps, DrainKeeps, Kept, ResizeKeeps, gives_asked, turn_kept}
+use Rattle.proof_migration.proofs.Program.Turns.NextCalls.{insp_called}
 use Rattle.proof_migration.proofs.ToolPhase.Unaltered.Asking.{AskedAs}
 use Rattle.proof_migration.proofs.ToolPhase.Unaltered.Away.{unaltered_front}
 use Rattle.proof_bounds.specs.AttemptTurns.Attempts.{MayTry, most_tries}
 use Rattle.proof_bounds.proofs.Attempts.{attempts_few}
-use Rattle.proof_bounds.proofs.Going.{IsGoing, ToolPhaseFits, all_going, waits_to_set}
-use Rattle.proof_bounds.proofs.Inspecting.{setting_is}
-use Rattle.proof_bounds.proofs.Leftovers.{SetupFits}
+use Rattle.proof_bounds.proofs.Going.{IsGoing, all_going}
 use Rattle.proof_bounds.proofs.AttemptTurns.LogWrites.{log_found}
 use Rattle.proof_bounds.proofs.AttemptTurns.NextNotes.{NextRow, next_row}
 use Rattle.proof_bounds.proofs.AttemptTurns.NoteRows.{IsFitNote, beat_fits, check_fits, note_result, note_said, note_write}
 use Rattle.proof_resume.specs.Reached.Checkpoints.{checkpoint_among, checkpoint_asked, checkpoint_stored, checkpoint_written, if_done, last_checkpoint, or_earlier}
 use Rattle.proof_resume.specs.Reached.Laws.{CheckpointsExist, StoredCheckpointsAreBehind}
-use Rattle.proof_bounds.proofs.AttemptTurns.Changelogs.{none_found, step_past}
+use Rattle.proof_bounds.proofs.AttemptTurns.Changelogs.{asked_hint, insp_away, is_past, is_writing, uncalled, was_made, writes_log, writes_so}
 use Rattle.proof_bounds.proofs.AttemptTurns.ChangelogTurns.{LogLeft, log_gone, log_left, log_new, log_stays, others_away}
 use Rattle.proof_resume.proofs.Reached.LastCheckpoints.{Past, checkpoints_are_behind, setup_writes_none, stays_past}
 use Rattle.proof_resume.proofs.Reached.Statements.{IsUndone, StatementLeaves, is_done, statement_leaves, undone}
@@ -127,46 +120,6 @@ undone_none : (reported : Option Answer) (row : Option Row) → IsUndone reporte
 undone_none None row none = refl
 undone_none (Some (answers.Ok count)) row none = absurd none
 undone_none (Some answer) row none = refl
-
--- the cut-over's request writes no row but the hint
-pub call_away : (t : List ℕ) (cutover : CutOver) → (cutover.phase ≡ Attempting Hinting → ⊥) → (request : Request) → attempts.next Inspector cutover ≡ Some request → WritesAway (watched t) request
-unfolding attempts.next
-call_away t cutover unhinted request call = by cutover.phase refl call where
-  cleared : (one : Cleared) → clears cutover.table one ≡ Some request → WritesAway (watched t) request
-  cleared Looking call = some_request (WritesAway (watched t)) _ request call tt
-  cleared (Drops left) call = some_request (WritesAway (watched t)) _ request call tt
-
-  ends : (b : Bool) (one : Cleared) → cond b (clears cutover.table one) None ≡ Some request → WritesAway (watched t) request
-  ends true one call = cleared one call
-  ends false one call = absurd cc
-
-  by : (phase : Phase) → cutover.phase ≡ phase → attempts.inspector_call cutover phase ≡ Some request → WritesAway (watched t) request
-  by (Attempting Hinting) at call = absurd (unhinted at)
-  by (Attempting (ReadingCounter drain)) at call = some_request (WritesAway (watched t)) _ request call tt
-  by (Attempting (SettingCounter number drain)) at call = some_request (WritesAway (watched t)) _ request call tt
-  by (Attempting Showing) at call = some_request (WritesAway (watched t)) _ request call tt
-  by (Attempting stage) at call = absurd cc
-  by (Ending one) at call = ends (is_free cutover.hold cutover.renamer_waits) one call
-  by (Finishing one) at call = cleared one call
-  by Resting at call = absurd cc
-  by Finished at call = absurd cc
-
-abbrev is_hinting : Phase → Bool
-is_hinting (Attempting Hinting) = true
-is_hinting phase = false
-
-hinting_is : (phase : Phase) → is_hinting phase ≡ true → phase ≡ Attempting Hinting
-hinting_is (Attempting Hinting) is = refl
-hinting_is (Attempting stage) is = absurd (false≢true is)
-hinting_is Resting is = absurd (false≢true is)
-hinting_is (Ending one) is = absurd (false≢true is)
-hinting_is (Finishing one) is = absurd (false≢true is)
-hinting_is Finished is = absurd (false≢true is)
-
-asked_hint : (t : List ℕ) (cutover : CutOver) (request : Request) → cutover.table ≡ t → cutover.phase ≡ Attempting Hinting → attempts.next Inspector cutover ≡ Some request → request ≡ writes_hint t cutover.attempts
-unfolding attempts.next
-asked_hint t cutover request own hinting next =
-    some_request (λ (r : Request). r ≡ writes_hint t cutover.attempts) (writes_hint cutover.table cutover.attempts) request (ap (attempts.inspector_call cutover) (sym hinting) ∙ next) (ap (λ (name : List ℕ). writes_hint name cutover.attempts) own)
 
 -- nobody but the inspector asks for a checkpoint
 pub other_unasked : (actor : Actor) (asked : Asked) → same_actor actor Insp ≡ false → checkpoint_asked actor asked ≡ None
@@ -232,29 +185,12 @@ module _ (plan : PlanData) (runs : IsRunnable plan) (serial : IsSerialPlan plan)
   others : same_actor entry.actor Insp ≡ false → (request : Request) → About request → WritesAway (watched t) request
   others other = others_away plan serial journal entry (scene_run plan runs serial journal entry kept_more off) asks_as other
 
-  -- the inspector's request that waits sets the counter
-  insp_waits : entry.actor ≡ Insp → is_command entry.asked ≡ false → (request : Request) → about (opens entry before) entry.session Poll ≡ Some request → WritesAway (watched t) request
-  insp_waits same called request is_about =
-      setting_is plan (WritesAway (watched t)) (λ number. tt) now.tool.tool_phase request
-      (waits_to_set plan journal request runs serial kept (ap (λ (a : Actor). (standing_of plan journal a).waits) (sym same) ∙ waits_with plan serial runs.fitting journal entry (known plan runs serial journal entry kept_more off) run off called request is_about))
+  -- the inspector's turn writes none where no row of the changelog comes next, nor where it calls nothing
+  insp_unwritten : entry.actor ≡ Insp → ((work : Work) → now.tool.tool_phase ≡ Migrating work → writes_log work.cutover.phase ≡ false) → (request : Request) → About request → WritesAway (watched t) request
+  insp_unwritten = insp_away plan runs serial tries.some tries.few tries.notes journal entry kept_more off
 
-  -- what it asks is written by nobody but a call of its own
-  insp_away : entry.actor ≡ Insp → (asked : Asked) → entry.asked ≡ asked → ((request : Request) → asked ≡ Call request → WritesAway (watched t) request) → (request : Request) → About request → WritesAway (watched t) request
-  insp_away same (Call called) asks away request is = let one : called ≡ request = let both : about (opens entry before) entry.session (Call called) ≡ Some request = sym (ap (about (opens entry before) entry.session) asks) ∙ is in cc in subst (WritesAway (watched t)) one (away called refl)
-  insp_away same Poll asks away request is = insp_waits same (ap is_command asks) request (sym (ap (about (opens entry before) entry.session) asks) ∙ is)
-  insp_away same Cut asks away request is = insp_waits same (ap is_command asks) request (sym (ap (about (opens entry before) entry.session) asks) ∙ is)
-  insp_away same (Command word) asks away request is = absurd (let no : None ≡ Some request = sym (ap (about (opens entry before) entry.session) asks) ∙ is in cc)
-
-  -- its call
-  insp_calls : entry.actor ≡ Insp → (request : Request) → entry.asked ≡ Call request → tool_call plan now.server journal now.tool now.tool.tool_phase Insp ≡ Some request
-  unfolding given
-  insp_calls same request asks = by (asking plan journal Insp entry.asked together.server (subst (λ (a : Actor). given plan journal a ≡ Some entry.asked) same (gives_asked plan journal entry entry.asked run.followed.given refl (λ cut. no_cut (sym asks ∙ cut))))) where
-    no_cut : Call request ≡ Cut → ⊥
-    no_cut both = cc
-
-    by : Asking plan journal Insp entry.asked → tool_call plan now.server journal now.tool now.tool.tool_phase Insp ≡ Some request
-    by (calls_so other asks_it idle call) = let one : other ≡ request = let both : Call other ≡ Call request = sym asks_it ∙ asks in cc in call ∙ ap Some one
-    by (polls_so other asks_it waits) = absurd (let no : Call request ≡ Poll = sym asks ∙ asks_it in cc)
+  insp_uncalled : entry.actor ≡ Insp → is_command entry.asked ≡ false → (request : Request) → about (opens entry before) entry.session Poll ≡ Some request → WritesAway (watched t) request
+  insp_uncalled = uncalled plan runs serial tries.some tries.few tries.notes journal entry kept_more off
 
   insp_or : (b : Bool) → same_actor entry.actor Insp ≡ b → (entry.actor ≡ Insp) ⊎ (same_actor entry.actor Insp ≡ false)
   insp_or true is = inl (same_actor_is entry.actor Insp is)
@@ -263,81 +199,29 @@ module _ (plan : PlanData) (runs : IsRunnable plan) (serial : IsSerialPlan plan)
   -- WHILE THE TOOL SETS UP
 
   module _ (setup : Setup) (old : List ℕ) (eq : now.tool.tool_phase ≡ SettingUp setup old) (was : PhaseExists plan journal (SettingUp setup old)) where
+    no_work : (work : Work) → now.tool.tool_phase ≡ Migrating work → writes_log work.cutover.phase ≡ false
+    no_work work other = absurd (let no : SettingUp setup old ≡ Migrating work = sym eq ∙ other in cc)
+
     setup_left : LogLeft t Makes before.tables after.tables
     setup_left = by (insp_or (same_actor entry.actor Insp) refl) where
       by : (entry.actor ≡ Insp) ⊎ (same_actor entry.actor Insp ≡ false) → LogLeft t Makes before.tables after.tables
       by (inr other) = left (others other)
-      by (inl same) = left (insp_away same entry.asked refl (λ request asks. setup_away plan t setup request (unless_called (is_reverting now.tool.reason) (setup_call plan setup) request (ap (λ (c : ToolPhase). tool_call plan now.server journal now.tool c Insp) (sym eq) ∙ insp_calls same request asks))))
+      by (inl same) = left (insp_unwritten same no_work)
 
-    abbrev StoredNone : Type 0
-    StoredNone = checkpoint_stored t after.tables ≡ None
-
-    still : past_log setup ≡ true → StoredNone
-    still past = none_left t Makes before.tables after.tables setup_left (was.1 past)
-
-    made : setup ≡ MakingLog → StoredNone
-    made making = none_left t Makes before.tables after.tables setup_left (ap checkpoint_among (none_found (find_table (log_name t) before.tables) (sym (has_is (log_name t) before.tables) ∙ fits.0))) where
-      fits : SetupFits plan before.tables MakingLog
-      fits = subst (SetupFits plan before.tables) making (subst (ToolPhaseFits plan before.tables) eq going.fits)
-
-    abbrev New : Kept
-    New b (SettingUp next more_tries) = past_log next ≡ true → StoredNone
-    New b (Migrating work) = StoredNone
-
-    back : (b : Bool) (tool_phase : ToolPhase) → New b tool_phase → New true (stopped tool_phase)
-    back b (SettingUp next more_tries) one = one
-    back b (Migrating work) one = one
-
-    drain : DrainKeeps New
-    drain b work more_tries one = one
-
-    begins : (size : ℕ) (next : Setup) → (past_log next ≡ true → (past_log setup ≡ true) ⊎ (setup ≡ MakingLog)) → New false (tool_phase_of plan size next old)
-    begins size next from = by next from where
-      either : (past_log setup ≡ true) ⊎ (setup ≡ MakingLog) → StoredNone
-      either (inl past) = still past
-      either (inr making) = made making
-
-      by : (next : Setup) → (past_log next ≡ true → (past_log setup ≡ true) ⊎ (setup ≡ MakingLog)) → New false (tool_phase_of plan size next old)
-      by (Ready position range) from = either (from refl)
-      by Listing from = λ past. either (from past)
-      by (Clearing left_over) from = λ past. either (from past)
-      by MakingLog from = λ past. either (from past)
-      by MakingGhost from = λ past. either (from past)
-      by Marking from = λ past. either (from past)
-      by (Reaching position) from = λ past. either (from past)
-
-    answer_so : (answer : Answer) (actor : Actor) → AnswerKeeps plan New answer tool actor (SettingUp setup old)
-    answer_so answer Insp = record {
-      reverting = λ reverting. still;
-      again = λ onward bad more_tries past. absurd (false≢true past);
-      goes = λ onward good. begins tool.operator.size (setup_after t setup answer) (λ past. step_past t setup answer (subst (λ (b : Bool). past_log (cond b Listing (setup_step t setup answer)) ≡ true) good past));
-    }
-    answer_so answer Op = still
-    answer_so answer Copy = still
-    answer_so answer Apply = still
-    answer_so answer Lock = still
-    answer_so answer Ren = still
-    answer_so answer (Client client) = still
-
-    stored_then : New (is_reverting (moment plan more).tool.reason) (moment plan more).tool.tool_phase
-    stored_then =
-        turn_kept plan New back journal entry drain
-        (record {
-          commanded = λ word asks unsized. subst (New (is_reverting tool.reason)) (sym eq) still;
-          resized = λ size asks. subst (ResizeKeeps New tool size) (sym eq) still;
-          idle = λ asks rests. subst (New (is_reverting tool.reason)) (sym eq) still;
-          lost = λ asks worked. subst (AnswerKeeps plan New answers.Lost tool entry.actor) (sym eq) (answer_so answers.Lost entry.actor);
-          heard = λ called commanded. subst (AnswerKeeps plan New entry.answer tool entry.actor) (sym eq) (answer_so entry.answer entry.actor);
-        })
+    stored_then : is_past (moment plan more).tool.tool_phase ≡ true → checkpoint_stored t after.tables ≡ None
+    stored_then past = none_left t Makes before.tables after.tables setup_left (by (was_made plan runs serial tries.some tries.few tries.notes journal entry kept_more past)) where
+      by : (is_past now.tool.tool_phase ≡ true) ⊎ (find_table (log_name t) before.tables ≡ None) → checkpoint_stored t before.tables ≡ None
+      by (inl made) = was.1 (sym (ap is_past eq) ∙ made)
+      by (inr none) = ap checkpoint_among none
 
     none_then : last_checkpoint more ≡ None
     none_then = last_more journal entry ∙ ap (λ (one : Option Row). or_earlier one (checkpoint_written entry)) was.0 ∙ ap (or_earlier None) (setup_writes_none plan journal entry setup old together run eq)
 
     set_up : PhaseExists plan more (moment plan more).tool.tool_phase
     set_up = by (moment plan more).tool.tool_phase stored_then where
-      by : (tool_phase : ToolPhase) → New (is_reverting (moment plan more).tool.reason) tool_phase → PhaseExists plan more tool_phase
+      by : (tool_phase : ToolPhase) → (is_past tool_phase ≡ true → checkpoint_stored t after.tables ≡ None) → PhaseExists plan more tool_phase
       by (SettingUp next more_tries) stored = (none_then, stored)
-      by (Migrating work) stored = stored ∙ sym none_then
+      by (Migrating work) stored = stored refl ∙ sym none_then
 
   -- WHILE IT MIGRATES
 
@@ -412,21 +296,23 @@ module _ (plan : PlanData) (runs : IsRunnable plan) (serial : IsSerialPlan plan)
 
     inspected : entry.actor ≡ Insp → (request : Request) → entry.asked ≡ Call request → Inspects plan journal now.tool work request → Goal
     inspected same request asks (notes_so note resting onward next) = note_goal same request asks (next_row plan work.applier.position (reach_in journal work.copier) (notes_of journal) request next)
-    inspected same request asks (cuts_so off_rest next) = by (is_hinting work.cutover.phase) refl where
-      by : (b : Bool) → is_hinting work.cutover.phase ≡ b → Goal
-      by true hinting =
-          let at : work.cutover.phase ≡ Attempting Hinting = hinting_is work.cutover.phase hinting in
-          hint_goal same at (asks ∙ ap Call (asked_hint t work.cutover request (subst (ToolPhaseIsNamed plan) eq (named plan journal)).cutover at next))
-      by false none_hints =
-          quiet
-          (insp_away same (Call request) asks (λ other one. let is : request ≡ other = cc in subst (WritesAway (watched t)) is (call_away t work.cutover (λ hinting. true≢false (sym (ap is_hinting hinting) ∙ none_hints)) request next)))
-          (ap (λ (a : Actor). checkpoint_asked a entry.asked) same ∙ ap (checkpoint_asked Insp) asks ∙ cutover_unasked work.cutover request next)
+    inspected same request asks (cuts_so off_rest next) = by (writes_log work.cutover.phase) refl where
+      hints : (work.cutover.phase ≡ Resting) ⊎ (work.cutover.phase ≡ Attempting Hinting) → Goal
+      hints (inl resting) = absurd (true≢false (sym (ap is_resting resting) ∙ off_rest))
+      hints (inr at) = hint_goal same at (asks ∙ ap Call (asked_hint t work.cutover request (subst (ToolPhaseIsNamed plan) eq (named plan journal)).cutover at next))
+
+      by : (b : Bool) → writes_log work.cutover.phase ≡ b → Goal
+      by true writes = hints (writes_so work.cutover.phase writes)
+      by false none_written =
+          quiet (insp_unwritten same (λ other at. sym (ap is_writing at) ∙ ap is_writing eq ∙ none_written)) (ap (λ (a : Actor). checkpoint_asked a entry.asked) same ∙ ap (checkpoint_asked Insp) asks ∙ cutover_unasked work.cutover request next)
 
     own : entry.actor ≡ Insp → (asked : Asked) → entry.asked ≡ asked → Goal
-    own same (Call request) asks = inspected same request asks (inspects plan journal now.tool work request (ap (λ (c : ToolPhase). tool_call plan now.server journal now.tool c Insp) (sym eq) ∙ insp_calls same request asks))
-    own same Poll asks = quiet (insp_away same Poll asks (λ request one. absurd cc)) (ap (λ (a : Actor). checkpoint_asked a entry.asked) same ∙ ap (checkpoint_asked Insp) asks)
-    own same Cut asks = quiet (insp_away same Cut asks (λ request one. absurd cc)) (ap (λ (a : Actor). checkpoint_asked a entry.asked) same ∙ ap (checkpoint_asked Insp) asks)
-    own same (Command word) asks = quiet (insp_away same (Command word) asks (λ request one. absurd cc)) (ap (λ (a : Actor). checkpoint_asked a entry.asked) same ∙ ap (checkpoint_asked Insp) asks)
+    own same (Call request) asks =
+        inspected same request asks (inspects plan journal now.tool work request (ap (λ (c : ToolPhase). tool_call plan now.server journal now.tool c Insp) (sym eq) ∙ insp_called plan journal entry together run same request asks))
+    own same Poll asks = quiet (λ request is. insp_uncalled same (ap is_command asks) request (sym (ap (about (opens entry before) entry.session) asks) ∙ is)) (ap (λ (a : Actor). checkpoint_asked a entry.asked) same ∙ ap (checkpoint_asked Insp) asks)
+    own same Cut asks = quiet (λ request is. insp_uncalled same (ap is_command asks) request (sym (ap (about (opens entry before) entry.session) asks) ∙ is)) (ap (λ (a : Actor). checkpoint_asked a entry.asked) same ∙ ap (checkpoint_asked Insp) asks)
+    own same (Command word) asks =
+        quiet (λ request is. absurd (let no : None ≡ Some request = sym (ap (about (opens entry before) entry.session) asks) ∙ is in cc)) (ap (λ (a : Actor). checkpoint_asked a entry.asked) same ∙ ap (checkpoint_asked Insp) asks)
 
     works_on : Goal
     works_on = by (insp_or (same_actor entry.actor Insp) refl) where

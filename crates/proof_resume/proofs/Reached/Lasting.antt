@@ -15,9 +15,8 @@ use Rattle.server_model.specs.declared.entry.Asked.TheVariants.{Call, Poll, Comm
 use Rattle.server_model.specs.declared.entry.Entry.{Entry}
 use Rattle.server_model.specs.declared.request.Request.{Request}
 use Rattle.server_model.specs.declared.request.Request.TheVariants as requests
-use Rattle.server_model.specs.declared.session.Waiting.{Waiting}
-use Rattle.server_model.specs.Entries.{is_client, is_command, same_actor}
-use Rattle.server_model.specs.States.{State, waiting_of}
+use Rattle.server_model.specs.Entries.{is_client, same_actor}
+use Rattle.server_model.specs.States.{State}
 use Rattle.plan_data.specs.PlanData.{PlanData}
 use Rattle.tool_changelog.specs.ToolTables.{sentry_schema}
 use Rattle.tool_program.specs.JournalWords.Histories as histories
@@ -36,26 +35,25 @@ use Rattle.tool_program.specs.CutoverCore.Attempts as attempts
 use Rattle.tool_program.specs.CutoverCore.Attempts.{clears, is_free}
 use Rattle.tool_program.specs.CutoverCore.CutOvers as cuts
 use Rattle.tool_program.specs.CutoverCore.CutOvers.{is_resting}
-use Rattle.tool_program.specs.Programs.{IsGiven, given, may_begin, tool_call}
+use Rattle.tool_program.specs.Programs.{given, may_begin, tool_call}
 use Rattle.tool_program.specs.Setups.{Setup, Listing, Clearing, MakingLog, MakingGhost, Marking, Reaching, Ready, setup_after}
 use Rattle.tool_program.specs.Tools.{ToolPhase, SettingUp, Migrating, Moment, Tool, Work, is_reverting, moment, stopped, tool_phase_of}
 use Rattle.tool_program.proofs.OnlineCalls.Machines.{ToolPhaseIsNamed, named}
 use Rattle.proof_journals.specs.Ghost.Rows.Moments.{Row}
 use Rattle.proof_journals.specs.Plans.{IsPlanRun, IsSerialPlan, limits_of, scene_of}
-use Rattle.proof_journals.specs.Turns.{IsSceneRun, about, request_of}
+use Rattle.proof_journals.specs.Turns.{IsSceneRun, about}
 use Rattle.proof_journals.specs.Run.Kept.{IsKept}
 use Rattle.proof_journals.specs.Machine.Runnable.{IsRunnable}
 use Rattle.proof_journals.specs.Machine.Standings.{Standing, standing_of}
 use Rattle.proof_journals.proofs.Actors.{same_actor_is}
-use Rattle.proof_journals.proofs.Journals.{opened_waits}
 use Rattle.proof_journals.proofs.PlanJournals.{plan_runs_are_scene_runs}
 use Rattle.proof_journals.proofs.Machine.Asking.{renamer_next, some_request, unless_called}
 use Rattle.proof_journals.proofs.Machine.Inspecting.{Inspects, inspects, notes_so, cuts_so}
-use Rattle.proof_journals.proofs.Machine.Journals.{Asking, IsRun, IsTogether, asking, calls_so, polls_so}
+use Rattle.proof_journals.proofs.Machine.Journals.{IsRun, IsTogether, asking}
 use Rattle.proof_journals.proofs.Machine.Marks.{history_more, old_not_log}
 use Rattle.proof_journals.proofs.Machine.Polling.{AllTogether, AllWaits, waits_begin, waits_more}
 use Rattle.proof_journals.proofs.Machine.Schemas.{is_quiet}
-use Rattle.proof_journals.proofs.Machine.Seated.{IsServed, own_waiting}
+use Rattle.proof_journals.proofs.Machine.Seated.{IsServed}
 use Rattle.proof_journals.proofs.Machine.Tabling.{given_quiet}
 use Rattle.proof_migration.specs.Attempt.Renamed.{IsRenamedAt, ToolPhaseRenamed}
 use Rattle.proof_migration.specs.ToolPhase.Unaltered.{IsUnaltered}
@@ -64,8 +62,10 @@ use Rattle.proof_migration.proofs.KeptJournals.{each_kept}
 use Rattle.proof_migration.proofs.Migration.Leaves.{WritesAway}
 use Rattle.proof_migration.proofs.Program.Hints.Known.{hints_go}
 use Rattle.proof_migration.proofs.Program.Hints.Logging.{NoneWrote, watched}
+use Rattle.proof_migration.proofs.Program.Turns.Asked.{about_from}
 use Rattle.proof_migration.proofs.Program.Turns.Follows.{kept_front, kept_run}
-use Rattle.proof_migration.proofs.ToolPhase.ToolPhaseTurns.{AnswerKeeps, DrainKeeps, Kept, ResizeKeeps, gives_asked, turn_kept}
+use Rattle.proof_migration.proofs.Program.Turns.NextCalls.{called_so, insp_called}
+use Rattle.proof_migration.proofs.ToolPhase.ToolPhaseTurns.{AnswerKeeps, DrainKeeps, Kept, ResizeKeeps, turn_kept}
 use Rattle.proof_migration.proofs.ToolPhase.Unaltered.Asking.{AskedAs, ToolCall, given_asked}
 use Rattle.proof_migration.proofs.ToolPhase.Unaltered.Away.{IsKnownAsked, about_asked, all_asked}
 use Rattle.proof_bounds.specs.AttemptTurns.Attempts.{MayTry}
@@ -73,8 +73,9 @@ use Rattle.proof_bounds.proofs.Going.{waits_to_set}
 use Rattle.proof_bounds.proofs.Inspecting.{setting_is}
 use Rattle.proof_resume.specs.Reached.Checkpoints.{checkpoint_among, checkpoint_asked, checkpoint_stored, last_checkpoint, or_earlier}
 use Rattle.proof_resume.specs.Reached.Laws.{CheckpointsLast}
+use Rattle.proof_bounds.proofs.AttemptTurns.Changelogs.{call_away}
 use Rattle.proof_bounds.proofs.AttemptTurns.ChangelogTurns.{LogLeft, log_gone, log_left, log_new, log_stays, none_written, others_away}
-use Rattle.proof_resume.proofs.Reached.Existing.{call_away, checkpoints_exist, other_unasked}
+use Rattle.proof_resume.proofs.Reached.Existing.{checkpoints_exist, other_unasked}
 use Rattle.proof_resume.proofs.Reached.Written.{cutover_unasked, last_more, unasked}
 
 -- WHO MAKES NO CHANGELOG
@@ -146,10 +147,6 @@ module _ (plan : PlanData) (journal : List Entry) (all : AllTogether plan journa
   ren_gives (SettingUp setup tries) call = absurd cc
   ren_gives (Migrating work) call = subst (NoLog plan.table) (sym (renamer_next work.cutover request call)) tt
 
-  asks_so : {actor : Actor} → (tool_call plan now_so.server journal now_so.tool now_so.tool.tool_phase actor ≡ Some request → NoLog plan.table request) → Asking plan journal actor (Call request) → NoLog plan.table request
-  asks_so from (calls_so other same idle call) = let one : other ≡ request = let both : Call other ≡ Call request = sym same in cc in from (call ∙ ap Some one)
-  asks_so from (polls_so other same some) = absurd (let no : Call request ≡ Poll = same in cc)
-
   given_no_log : (actor : Actor) → given plan journal actor ≡ Some (Call request) → MakesNoLog plan.table actor request
   unfolding given
   given_no_log Insp gives = tt
@@ -157,8 +154,8 @@ module _ (plan : PlanData) (journal : List Entry) (all : AllTogether plan journa
   given_no_log Op gives = quiet_no_log plan.table request (given_quiet plan journal Op request all gives refl)
   given_no_log Copy gives = quiet_no_log plan.table request (given_quiet plan journal Copy request all gives refl)
   given_no_log Apply gives = quiet_no_log plan.table request (given_quiet plan journal Apply request all gives refl)
-  given_no_log Lock gives = asks_so (lock_gives now_so.tool.tool_phase refl) (asking plan journal Lock (Call request) all.tool.server gives)
-  given_no_log Ren gives = asks_so (ren_gives now_so.tool.tool_phase) (asking plan journal Ren (Call request) all.tool.server gives)
+  given_no_log Lock gives = lock_gives now_so.tool.tool_phase refl (called_so plan journal Lock request (asking plan journal Lock (Call request) all.tool.server gives))
+  given_no_log Ren gives = ren_gives now_so.tool.tool_phase (called_so plan journal Ren request (asking plan journal Ren (Call request) all.tool.server gives))
 
 together_at : (plan : PlanData) → IsRunnable plan → (journal : List Entry) → IsKept plan journal → AllTogether plan journal
 together_at plan runs journal kept = (all_asked plan journal runs kept.faithful kept.follows).marking.tabled.all
@@ -225,24 +222,11 @@ module _ (plan : PlanData) (runs : IsRunnable plan) (serial : IsSerialPlan plan)
   scene_run : IsSceneRun (limits_of plan) (scene_of plan more) more
   scene_run = plan_runs_are_scene_runs plan more (are_runs more kept_more)
 
-  -- what a turn is about is called, or waits
-  waits_with : is_command entry.asked ≡ false → (request : Request) → request_of (waiting_of entry.session (opens entry before).waiting) ≡ Some request → (has entry.actor).waits ≡ Some request
-  waits_with called request some =
-      sym (own_waiting plan journal entry together.known served called) ∙ ap (λ (w : List Waiting). request_of (waiting_of entry.session w)) (sym (opened_waits (is_command entry.asked) (not (is_client entry.actor)) entry.session before)) ∙ some
-
-  about_from : (P : Request → Type 0) → ((request : Request) → entry.asked ≡ Call request → given plan journal entry.actor ≡ Some (Call request) → P request) → ((request : Request) → (has entry.actor).waits ≡ Some request → P request) → (request : Request) → About request → P request
-  about_from P calls waits request is = by entry.asked refl run.followed.given is where
-    by : (asked : Asked) → entry.asked ≡ asked → IsGiven plan journal entry asked → about (opens entry before) entry.session asked ≡ Some request → P request
-    by (Call called) asks gives is = let one : called ≡ request = cc in subst P one (calls called asks gives)
-    by Poll asks gives is = waits request (waits_with (ap is_command asks) request is)
-    by Cut asks gives is = waits request (waits_with (ap is_command asks) request is)
-    by (Command word) asks gives is = absurd cc
-
   asks_as : (request : Request) → About request → AskedAs plan entry.actor request
-  asks_as = about_from (AskedAs plan entry.actor) (λ request asks gives. given_asked plan journal entry.actor request gives) (known.asks entry.actor)
+  asks_as = about_from plan journal entry together run (AskedAs plan entry.actor) (λ request asks gives. given_asked plan journal entry.actor request gives) (known.asks entry.actor)
 
   asks_no_log : (request : Request) → About request → MakesNoLog t entry.actor request
-  asks_no_log = about_from (MakesNoLog t entry.actor) (λ request asks gives. given_no_log plan journal known.marking.tabled.all request entry.actor gives) (waits_no_log plan runs journal kept entry.actor)
+  asks_no_log = about_from plan journal entry together run (MakesNoLog t entry.actor) (λ request asks gives. given_no_log plan journal known.marking.tabled.all request entry.actor gives) (waits_no_log plan runs journal kept entry.actor)
 
   -- WHAT A TURN LEAVES THAT ASKS FOR NO ROW, NOR MAKES THE CHANGELOG
 
@@ -299,20 +283,11 @@ module _ (plan : PlanData) (runs : IsRunnable plan) (serial : IsSerialPlan plan)
     inspected request (cuts_so off next) = ((call_away t work.cutover (λ hinting. renamed_at (Attempting Hinting) hinting) request next, inspector_no_log t work.cutover request next), cutover_unasked work.cutover request next)
 
     called : (request : Request) → entry.asked ≡ Call request → Inspects plan journal now.tool work request
-    unfolding given
-    called request asks = by (asking plan journal Insp entry.asked together.server (subst (λ (a : Actor). given plan journal a ≡ Some entry.asked) same (gives_asked plan journal entry entry.asked run.followed.given refl (λ cut. no_cut (sym asks ∙ cut))))) where
-      no_cut : Call request ≡ Cut → ⊥
-      no_cut both = cc
-
-      by : Asking plan journal Insp entry.asked → Inspects plan journal now.tool work request
-      by (calls_so other asks_it idle call) =
-          let one : other ≡ request = let both : Call other ≡ Call request = sym asks_it ∙ asks in cc in
-          inspects plan journal now.tool work request (ap (λ (c : ToolPhase). tool_call plan now.server journal now.tool c Insp) (sym eq) ∙ call ∙ ap Some one)
-      by (polls_so other asks_it waits) = absurd (let no : Call request ≡ Poll = sym asks ∙ asks_it in cc)
+    called request asks = inspects plan journal now.tool work request (ap (λ (c : ToolPhase). tool_call plan now.server journal now.tool c Insp) (sym eq) ∙ insp_called plan journal entry together run same request asks)
 
     insp_asks : (request : Request) → About request → InspAsks request
     insp_asks =
-        about_from InspAsks (λ request asks gives. (inspected request (called request asks)).0)
+        about_from plan journal entry together run InspAsks (λ request asks gives. (inspected request (called request asks)).0)
         (λ request waits. setting_is plan InspAsks (λ number. (tt, tt)) now.tool.tool_phase request (waits_to_set plan journal request runs serial kept (ap (λ (a : Actor). (has a).waits) (sym same) ∙ waits)))
 
     insp_unasked : (asked : Asked) → entry.asked ≡ asked → checkpoint_asked Insp asked ≡ None

@@ -67,7 +67,7 @@ use Rattle.proof_resume.proofs.Settled.QuietTurns.{quiet_turns}
 use Rattle.proof_resume.proofs.Settled.RollingBack.{reverts_roll_back}
 use Rattle.proof_resume.proofs.Settled.Running.{stands_settle}
 use Rattle.proof_resume.proofs.Settled.Setups.{IsSetup, setup_stays}
-use Rattle.proof_resume.proofs.Settled.Takes.{applier_loses, applier_takes, copier_loses, copier_takes}
+use Rattle.proof_migration.proofs.Program.Turns.Takes.{applier_loses, applier_takes, copier_loses, copier_takes}
 use Rattle.proof_resume.proofs.Settled.Thirds.{ThirdsAway, third_settles, thirds_more, thirds_start}
 use Rattle.proof_resume.proofs.Settled.Waits.{AreQuiet, IsQuietWait, all_quiet, waiting_stores}
 
@@ -291,6 +291,10 @@ module _ (plan : PlanData) (m : Migration) (at : Clustered m.schema) (rows : Lis
 
   -- EACH ANSWER
 
+  -- the sessions in which the two go on
+  some : SomeActorStates more
+  some = some_actor_states more (all_asked plan more of.runs kept.faithful kept.follows).marking.tabled.all.tool.known.sessions
+
   here : (b : Bool) → Same → New b (moment plan journal).tool.tool_phase
   here b same = subst (New b) (sym tool_phase) same
 
@@ -302,21 +306,21 @@ module _ (plan : PlanData) (m : Migration) (at : Clustered m.schema) (rows : Lis
 
   lost_copier : is_reverting (moment plan journal).tool.reason ≡ false → entry.actor ≡ Copy → entry.asked ≡ Cut → (turn : ℕ) → Still (copiers.took turn work.copier answers.Lost) work.applier.position
   unfolding copiers.took
-  lost_copier going same asks turn = stands_still _ (copier_loses plan m at rows of journal entry kept off work tool_phase going (goes going) same asks)
+  lost_copier going same asks turn = stands_still _ (copier_loses plan m at rows of journal entry kept off work tool_phase going (goes going) some.copier some.applier some.actor_states same asks)
 
   lost_applier : is_reverting (moment plan journal).tool.reason ≡ false → entry.actor ≡ Apply → entry.asked ≡ Cut → (turn : ℕ) → Still work.copier (appliers.took turn work.applier answers.Lost).position
   unfolding appliers.took
-  lost_applier going same asks turn = stands_still _ (applier_loses plan m at rows of journal entry kept off work tool_phase going (goes going) same asks)
+  lost_applier going same asks turn = stands_still _ (applier_loses plan m at rows of journal entry kept off work tool_phase going (goes going) some.copier some.applier some.actor_states same asks)
 
   took_copier : is_reverting (moment plan journal).tool.reason ≡ false → entry.actor ≡ Copy → is_cut entry.asked ≡ false → ((place number : ℕ) → copiers.progress work.copier entry.answer ≡ Unfit place number → ⊥) → Still (copiers.took counted.turns work.copier entry.answer) work.applier.position
   took_copier going same uncut fits =
       subst (λ (n : ℕ). Still (copiers.took n work.copier entry.answer) work.applier.position) (sym turn_is)
-      (stands_still _ (copier_takes plan m at rows of journal entry kept off work tool_phase going (goes going) same uncut fits))
+      (stands_still _ (copier_takes plan m at rows of journal entry kept off work tool_phase going (goes going) some.copier some.applier some.actor_states same uncut fits))
 
   took_applier : is_reverting (moment plan journal).tool.reason ≡ false → entry.actor ≡ Apply → is_cut entry.asked ≡ false → ((place number : ℕ) → appliers.progress work.applier entry.answer ≡ Unfit place number → ⊥) → Still work.copier (appliers.took counted.turns work.applier entry.answer).position
   took_applier going same uncut fits =
       subst (λ (n : ℕ). Still work.copier (appliers.took n work.applier entry.answer).position) (sym turn_is)
-      (stands_still _ (applier_takes plan m at rows of journal entry kept off work tool_phase going (goes going) same uncut fits))
+      (stands_still _ (applier_takes plan m at rows of journal entry kept off work tool_phase going (goes going) some.copier some.applier some.actor_states same uncut fits))
 
   lost_by : entry.asked ≡ Cut → (actor : Actor) → entry.actor ≡ actor → AnswerKeeps plan New answers.Lost counted actor (Migrating work)
   lost_by asks Insp same = λ tries. cut_so asks

@@ -41,7 +41,8 @@ use Rattle.proof_migration.proofs.Program.Turns.Follows.{kept_front, kept_run, k
 use Rattle.proof_migration.proofs.Program.Turns.Others.{IsThird, others_away}
 use Rattle.proof_migration.proofs.ToolPhase.Unaltered.Away.{IsKnownAsked, all_asked, unaltered_front}
 use Rattle.proof_resume.specs.Settled.NewTable.{IsSettled}
-use Rattle.proof_resume.proofs.Settled.KeptAway.{turns_settle, writes_away}
+use Rattle.proof_migration.proofs.Migration.Others.{writes_away}
+use Rattle.proof_resume.proofs.Settled.KeptAway.{turns_settle}
 
 -- no live session of another has written a row of the new table
 abbrev pub ThirdsAway : PlanData → Migration → List Entry → Type 0

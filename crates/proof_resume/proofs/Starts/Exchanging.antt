@@ -27,7 +27,8 @@ use Rattle.proof_migration.specs.Program.Turns.Laws.{IsMigrationOf}
 use Rattle.proof_migration.proofs.Program.Follows.{own_table}
 use Rattle.proof_migration.proofs.ToolPhase.Unaltered.Runs.{unaltered_runs}
 use Rattle.proof_bounds.specs.AttemptTurns.Attempts.{MayTry}
-use Rattle.proof_resume.specs.Finish.Walks.{StandsFor, StartsRight, machines_of}
+use Rattle.proof_migration.specs.Program.Turns.Goes.{StandsFor, machines_of}
+use Rattle.proof_resume.specs.Finish.Walks.{StartsRight}
 use Rattle.proof_resume.proofs.Finish.Walks.{finishes_alter}
 use Rattle.proof_plain.specs.Plans.{IsShort, PlainPlan}
 use Rattle.proof_resume.specs.Reached.Coverage.{IsBehindTool, left_in}

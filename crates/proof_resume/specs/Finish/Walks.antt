@@ -1,6 +1,6 @@
 -- *Finished copies alter the table*: where the new tool's copier and applier start right, the new table is the altered one when the tables
 -- are exchanged.
-use Rattle.std.specs.Prelude.{◌≡◌, ℕ, List, [], ◌∷◌, ◌++◌, length, drop, Option}
+use Rattle.std.specs.Prelude.{◌≡◌, List, [], ◌∷◌, ◌++◌, length, drop, Option}
 use Rattle.server_model.specs.Along.{Along}
 use Rattle.server_model.specs.declared.answer.Answer.TheVariants as answers
 use Rattle.server_model.specs.declared.answer.KeyRange.{KeyRange}
@@ -8,28 +8,18 @@ use Rattle.server_model.specs.declared.entry.Entry.{Entry}
 use Rattle.plan_data.specs.PlanData.{PlanData}
 use Rattle.tool_notes.specs.declared.checkpoint.Checkpoint.{Checkpoint}
 use Rattle.tool_program.specs.JournalWords.Journals.{IsFaithful}
-use Rattle.tool_program.specs.declared.chunk_copier.copier.Copier.{Copier}
-use Rattle.tool_program.specs.declared.event_applier.applier.Applier.{Applier}
 use Rattle.tool_finish.specs.declared.stage.Stage.TheVariants.{Ranging}
 use Rattle.tool_finish.specs.Finishes.{applier_from, copier_from, stage_behind, IsFinish}
 use Rattle.proof_journals.specs.Ghost.HeldKeys.{Clustered}
 use Rattle.proof_journals.specs.Ghost.Rows.Moments.{Row}
 use Rattle.proof_journals.specs.Ghost.Rows.Timelines.{Migration}
-use Rattle.proof_journals.specs.Plans.{limits_of, scene_of, IsPlanRun}
+use Rattle.proof_journals.specs.Plans.{IsPlanRun}
 use Rattle.proof_journals.specs.Run.Kept.{IsKept}
-use Rattle.proof_migration.specs.Migration.Machines.{Machines, MigrationStands}
 use Rattle.proof_migration.specs.Migration.Planning.{migration_of}
-use Rattle.proof_migration.specs.Program.Turns.Goes.{ActorStates}
+use Rattle.proof_migration.specs.Program.Turns.Goes.{StandsFor}
 use Rattle.proof_migration.specs.Program.Turns.Laws.{IsMigrationOf}
 use Rattle.proof_migration.specs.ToolPhase.Runnable.{IsAlterable}
 use Rattle.proof_resume.specs.Finish.Runs.{ExchangesAltered}
-
-abbrev pub machines_of : Copier → ℕ → Applier → ℕ → Machines
-machines_of copier copies applier applies = record { copier = copier; copier_session = copies; applier = applier; applier_session = applies }
-
--- *The migration stands for these machines*, in whatever sessions they go on
-abbrev pub StandsFor : (plan : PlanData) (m : Migration) → Clustered m.schema → List Row → List Entry → Copier → Applier → Type 0
-StandsFor plan m at rows journal copier applier = (copies applies : ℕ) → ActorStates journal copies applies → MigrationStands m at rows (limits_of plan) (scene_of plan []) journal (machines_of copier copies applier applies)
 
 -- *Starting right*: wherever the range of keys is answered, the migration stands for the new copier and the new applier.
 abbrev pub StartsRight : (plan : PlanData) (m : Migration) → Clustered m.schema → List Row → List Entry → List Entry → Type 0

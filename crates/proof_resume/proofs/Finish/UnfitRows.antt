@@ -1,11 +1,11 @@
 -- A new tool that reverts names a row that can't be converted: along its turns what it rolls back, and what it reverted by, stands in the journal.
-use Rattle.std.proofs.Common.{◌≡◌, ℕ, ◌==◌, Bool, true, false, not, ◌&&◌, List, [], ◌∷◌, ◌++◌, length, cond, Option, Some, None, refl, sym, ap, ◌∙◌, subst, append_assoc, append-nil}
+use Rattle.std.proofs.Common.{◌≡◌, ℕ, ◌==◌, Bool, true, false, ◌&&◌, List, [], ◌∷◌, ◌++◌, length, cond, Option, Some, None, refl, sym, ap, ◌∙◌, subst, append_assoc, append-nil}
 use Rattle.std.specs.Prelude.{is_some}
 use Rattle.std.proofs.lemmas.List.{length-append}
 use Rattle.std.proofs.Math.Seq.{drop-append_seam}
 use Rattle.base_values.specs.Laws.{StoresAgain}
 use Rattle.base_values.specs.declared.value.Value.{Value}
-use Rattle.base_values.specs.GhoSchema.Rows.{key_of, key_places}
+use Rattle.base_values.specs.GhoSchema.Rows.{key_places}
 use Rattle.base_values.specs.ToolNames.{log_name}
 use Rattle.base_script.specs.declared.actor.Actor.TheVariants.{Copy, Apply}
 use Rattle.server_model.specs.Along.{Along, Along-more}
@@ -18,10 +18,10 @@ use Rattle.server_model.specs.declared.outcome.Progress.TheVariants.{Going, Task
 use Rattle.server_model.specs.declared.request.Request.{Request}
 use Rattle.server_model.specs.Entries.{is_client, is_command}
 use Rattle.server_model.specs.States.{State, is_of_tool, session_of, unread}
-use Rattle.plan_data.specs.PlanData.{PlanData, has_counter, new_map, old_schema}
+use Rattle.plan_data.specs.PlanData.{PlanData, has_counter, old_schema}
 use Rattle.tool_notes.specs.declared.checkpoint.Checkpoint.{Checkpoint}
 use Rattle.tool_program.specs.JournalWords.Journals.{IsAnswered, IsFaithful, opens, state_at}
-use Rattle.tool_program.specs.JournalWords.Sessions.{IsSeated}
+use Rattle.tool_program.specs.JournalWords.Sessions.{IsSeated, live_session}
 use Rattle.tool_program.specs.declared.chunk_copier.copier.Copier.{Copier}
 use Rattle.tool_program.specs.declared.event_applier.applier.Applier.{Applier}
 use Rattle.tool_program.specs.ChunkCopier.Copiers as copiers
@@ -38,31 +38,31 @@ use Rattle.tool_finish.specs.declared.stage.UnfitRow.{UnfitRow}
 use Rattle.tool_finish.specs.declared.stage.UnfitRow.TheVariants.{Copied, Applied}
 use Rattle.tool_finish.specs.Finishes.{IsFinish, IsFinishTurn, applied, applier_from, applying, checkpoint_in, copied, copier_from, copying, counter_read, counting, dropped_log, first_live, has_read, listed, next, ranged, stage_behind, took}
 use Rattle.tool_finish.specs.Finishes as finishes
+use Rattle.tool_finish.specs.WholeJournals.{IsUnfitBehind, row_at}
 use Rattle.tool_finish.proofs.Walking.{stage_more}
 use Rattle.proof_journals.specs.Ghost.HeldKeys.{Clustered}
-use Rattle.proof_journals.specs.Ghost.Rows.Moments.{Row}
 use Rattle.proof_journals.specs.Ghost.Rows.Timelines.{Migration}
 use Rattle.proof_journals.specs.Machine.MigrationTables.{TablesExist}
+use Rattle.proof_journals.specs.Machine.Standings.{is_called, standing_of}
 use Rattle.proof_journals.specs.Plans.{IsPlanRun}
 use Rattle.proof_journals.specs.Run.Kept.{IsKept}
 use Rattle.proof_journals.proofs.Actors.{placed}
 use Rattle.proof_journals.proofs.Machine.Seated.{IsServed}
-use Rattle.proof_journals.proofs.Run.Living.{own_kind}
 use Rattle.proof_migration.specs.Migration.Planning.{migration_of}
 use Rattle.proof_migration.specs.Program.Turns.Laws.{IsMigrationOf}
 use Rattle.proof_migration.specs.ToolPhase.Runnable.{IsAlterable}
-use Rattle.proof_migration.proofs.Unfit.Copies.{IsUnfitRow}
-use Rattle.proof_migration.proofs.Unfit.Refusals.{HasNoConvertedRow}
-use Rattle.proof_resume.specs.Finish.Walks.{StandsFor, StartsRight}
+use Rattle.proof_migration.proofs.ToolServes.{session_of_tool}
+use Rattle.proof_migration.proofs.Unfit.Applies.{IsRefusedRow, refused_row}
+use Rattle.proof_migration.proofs.Unfit.Copies.{IsRefusedCopy, refused_copy}
+use Rattle.proof_migration.specs.Program.Turns.Goes.{StandsFor}
+use Rattle.proof_resume.specs.Finish.Walks.{StartsRight}
 use Rattle.proof_resume.proofs.Finish.Holders.{IsHeldBy}
 use Rattle.proof_resume.proofs.Finish.Machines.{IsApplierOf, IsCopierOf}
 use Rattle.proof_resume.proofs.Finish.Prompt.{StandsAlone, finish_turns, its_actor, its_request}
 use Rattle.proof_resume.proofs.Finish.Runs.{Knows}
 use Rattle.proof_resume.proofs.Finish.Verdicts.{GuardAt, Guards, guard_begins, guards_more}
-use Rattle.proof_resume.proofs.Finish.Walks.{Walks, WalksAt, finish_walks, kind_of_tool}
-use Rattle.top_call.specs.ResumedRuns.{IsUnfitBehind, row_at}
-use Rattle.top_call.proofs.FinishLaws.UnfitApplies as applies
-use Rattle.top_call.proofs.FinishLaws.UnfitCopies as copies
+use Rattle.proof_resume.proofs.Finish.Standing.{held_locked, held_waits}
+use Rattle.proof_resume.proofs.Finish.Walks.{Walks, WalksAt, finish_walks}
 
 -- WHAT STANDS IN THE JOURNAL
 
@@ -241,17 +241,19 @@ module _ (again : StoresAgain) (plan : PlanData) (is : IsAlterable plan) (at : C
     walks = finish_walks plan is at is.table.rows of run turns is_run kept goes.finish goes.faithful (starts turns goes.faithful goes.finish)
 
     of_tool : is_command entry.asked ≡ false → is_client entry.actor ≡ false → is_of_tool (session_of entry.session (opens entry now).sessions) ≡ true
-    of_tool called tool =
-        let alone = walks.away.alone in
-        kind_of_tool (session_of entry.session (opens entry now).sessions) (own_kind journal now entry alone.owners.both.living alone.owners.both.known (placed journal entry seated) turn.1 called ∙ ap (λ (b : Bool). Some (not b)) tool)
+    of_tool = let both = walks.away.alone.owners.both in session_of_tool journal now entry both.living both.known (placed journal entry seated) turn.1
+
+    -- nobody waits
+    none_waits : (own : Option ℕ) → IsHeldBy own now → (standing_of plan journal entry.actor).waits ≡ None
+    none_waits own held = held_waits own now (live_session journal entry.actor) held
 
     -- a row that the copier was refused
     copied_stands : (copier : Copier) (applier : Applier) → stage_behind plan run turns ≡ Copying copier applier → TablesExist plan now.tables → (own : Option ℕ) → IsHeldBy own now → IsCopierOf plan copier → StandsFor plan m at is.table.rows journal copier applier
         → (request : Option Request) → copiers.next journal copier ≡ request → finishes.copies request ≡ Some (entry.actor, entry.asked) → (column number : ℕ) → copiers.progress copier entry.answer ≡ Unfit column number → StandsSo plan run (later plan run turns entry) (Copied copier (refusal plan run turns entry column number))
     copied_stands copier applier stage exist own held of_plan stands None given asks column number unfit = absurd (cc)
     copied_stands copier applier stage exist own held of_plan stands (Some request) given asks column number unfit = record {
-      key = key;
-      told = λ rest. ap (λ (j : List Entry). copiers.unfit_key j copier) (longer plan run turns entry rest) ∙ told (entry ∷ rest);
+      key = was.key;
+      told = λ rest. ap (λ (j : List Entry). copiers.unfit_key j copier) (longer plan run turns entry rest) ∙ was.told (entry ∷ rest);
       is = record {
         before = turns;
         entry = entry;
@@ -259,37 +261,27 @@ module _ (again : StoresAgain) (plan : PlanData) (is : IsAlterable plan) (at : C
         turns_are = refl;
         turn_is = length-append journal (entry ∷ []);
         place = column;
-        refused = copies.was_refused again plan m at is.table.rows of journal entry goes.guards.marked.known served own held exist copier applier of_plan stands request given actor called column number unfit;
+        refused = was.refused;
         name = refl;
-        row = row.row;
-        concerned = ap (λ (s : Stage). row_at plan journal s key) stage ∙ row.concerned;
-        keyed = row.keyed;
-        unfit = row.fault;
-        refuses = row.refuses;
-        numbered = row.numbered;
+        row = was.row.row;
+        concerned = ap (λ (s : Stage). row_at plan journal s was.key) stage ∙ was.row.concerned;
+        keyed = was.row.keyed;
+        unfit = was.row.none.fault;
+        refuses = was.row.none.refuses;
+        numbered = was.row.none.numbered;
       };
     } where
-      actor : entry.actor ≡ Copy
-      actor = its_actor entry Copy request asks
-
-      called : entry.asked ≡ Call request
-      called = its_request entry Copy request asks
-
-      key : List Value
-      key = copies.key again plan m at is.table.rows of journal entry goes.guards.marked.known served own held exist copier applier of_plan stands request given actor called column number unfit
-
-      told : (rest : List Entry) → copiers.unfit_key (journal ++ rest) copier ≡ key
-      told = copies.key_stays again plan m at is.table.rows of journal entry goes.guards.marked.known served own held exist copier applier of_plan stands request given actor called column number unfit
-
-      row : IsUnfitRow plan now.tables key column number
-      row = copies.is_unfit again plan m at is.table.rows of journal entry goes.guards.marked.known served own held exist copier applier of_plan stands request given actor called column number unfit
+      was : IsRefusedCopy plan journal entry copier column number
+      was =
+          refused_copy again plan m at is.table.rows of journal entry goes.guards.marked.known served (held_locked own now (live_session journal entry.actor) held) exist copier applier of_plan.table of_plan.map stands (its_actor entry Copy request asks) copier.size request given
+          (is_called (its_request entry Copy request asks) (none_waits own held)) column number unfit
 
     -- a row that the applier was refused
     applied_stands : (copier : Copier) (applier : Applier) → stage_behind plan run turns ≡ Applying applier → (own : Option ℕ) → IsHeldBy own now → IsApplierOf plan applier → StandsFor plan m at is.table.rows journal copier applier
         → finishes.calls Apply (appliers.next journal applier) ≡ Some (entry.actor, entry.asked) → (column number : ℕ) → appliers.progress applier entry.answer ≡ Unfit column number → StandsSo plan run (later plan run turns entry) (Applied applier (refusal plan run turns entry column number))
     applied_stands copier applier stage own held of_plan stands asks column number unfit = record {
-      key = key_of (key_places (old_schema plan)) row;
-      told = λ rest. ap (λ (j : List Entry). appliers.unfit_key j (key_places (old_schema plan)) applier) (longer plan run turns entry rest) ∙ told (entry ∷ rest);
+      key = key;
+      told = λ rest. ap (λ (j : List Entry). appliers.unfit_key j (key_places (old_schema plan)) applier) (longer plan run turns entry rest) ∙ was.told (key_places (old_schema plan)) (entry ∷ rest);
       is = record {
         before = turns;
         entry = entry;
@@ -297,31 +289,26 @@ module _ (again : StoresAgain) (plan : PlanData) (is : IsAlterable plan) (at : C
         turns_are = refl;
         turn_is = length-append journal (entry ∷ []);
         place = column;
-        refused = applies.was_refused plan m at is.table.rows of journal entry goes.guards.marked.known served own held tool copier applier of_plan stands called column number unfit;
+        refused = was.refused;
         name = refl;
-        row = row;
-        concerned = ap (λ (s : Stage). row_at plan journal s (key_of (key_places (old_schema plan)) row)) stage
-            ∙ ap (λ (r : Row). Some r) (applies.row_is plan m at is.table.rows of journal entry goes.guards.marked.known served own held tool copier applier of_plan stands called column number unfit);
+        row = appliers.row_done (appliers.doing_at journal applier applier.step);
+        concerned = ap (λ (s : Stage). row_at plan journal s key) stage;
         keyed = refl;
-        unfit = none.fault;
-        refuses = none.refuses;
-        numbered = none.numbered;
+        unfit = was.none.fault;
+        refuses = was.none.refuses;
+        numbered = was.none.numbered;
       };
     } where
+      key : List Value
+      key = appliers.unfit_key journal (key_places (old_schema plan)) applier
+
       called : entry.asked ≡ Call (appliers.next journal applier)
       called = its_request entry Apply (appliers.next journal applier) asks
 
-      tool : is_of_tool (session_of entry.session (opens entry now).sessions) ≡ true
-      tool = of_tool (ap is_command called) (ap is_client (its_actor entry Apply (appliers.next journal applier) asks))
-
-      row : Row
-      row = applies.row plan m at is.table.rows of journal entry goes.guards.marked.known served own held tool copier applier of_plan stands called column number unfit
-
-      told : (rest : List Entry) → appliers.unfit_key (journal ++ rest) (key_places (old_schema plan)) applier ≡ key_of (key_places (old_schema plan)) row
-      told = applies.key_stays plan m at is.table.rows of journal entry goes.guards.marked.known served own held tool copier applier of_plan stands called column number unfit (key_places (old_schema plan))
-
-      none : HasNoConvertedRow (new_map plan) row column number
-      none = applies.no_converted_row plan m at is.table.rows of journal entry goes.guards.marked.known served own held tool copier applier of_plan stands called column number unfit
+      was : IsRefusedRow plan journal entry applier column number
+      was =
+          refused_row plan m at is.table.rows of journal entry goes.guards.marked.known served (of_tool (ap is_command called) (ap is_client (its_actor entry Apply (appliers.next journal applier) asks))) copier applier (of_plan.table ∙ sym of.of.name) (of_plan.schema ∙ sym of.of.new) (of_plan.map ∙ sym of.of.columns) stands
+          (is_called called (none_waits own held)) column number unfit
 
     -- what stands at the stage before it
     refuses : (stage : Stage) → stage_behind plan run turns ≡ stage → next plan journal stage ≡ Some (entry.actor, entry.asked) → StandsAlone journal now stage → Knows plan journal stage → GuardAt plan journal stage → WalksAt plan is at is.table.rows of journal stage → Refuses plan run turns entry stage
