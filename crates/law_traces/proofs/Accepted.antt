@@ -1,5 +1,4 @@
 -- The trace of every run of every accepted plan is audited yes, and so is that of a run that a new tool goes on with.
-use Rattle.proof_plans.specs.Laws.{AcceptedCausesStand}
 use Rattle.proof_plans.specs.ReadPlans.Laws.{ReadPlansAreAlterable, ReadPlansAreRunnable, ReadPlansAreSerial, ReadPlansAreWorded}
 use Rattle.server_model.specs.declared.outcome.Verdict.{Verdict}
 use Rattle.tool_program.specs.JournalWords.Journals.{state_at}
@@ -16,14 +15,15 @@ use Rattle.proof_audit.proofs.Wholes.{kept_cause, kept_verdict, kept_whole}
 use Rattle.law_traces.specs.Laws.{TracesAreAudited, WholeTracesAreAudited}
 use Rattle.law_traces.proofs.Alters.{lines_tell_alters}
 use Rattle.law_traces.proofs.Draws.{draws_as_left}
-use Rattle.law_traces.proofs.WholeRuns.{AcceptedRunsAreRuns, Known, finish_tells, wholes_serial}
+use Rattle.law_traces.specs.AcceptedPlans.{AcceptedPlanLaws, AcceptedRunsAreRuns}
+use Rattle.law_traces.proofs.WholeRuns.{finish_tells, wholes_serial}
 use Rattle.std.proofs.Common.{◌≡◌, subst}
 
 -- *Traces are audited yes*, of whole journals
-pub wholes_audited : Known → AcceptedCausesStand → ReadPlansAreWorded → WholeTracesAreAudited
-wholes_audited known causes worded plan journal was whole stands =
-    traces_audited plan journal (worded plan was).scripts (wholes_serial known plan was) (lines_tell_alters plan (known.serial was.bytes plan was.is) (known.runnable plan was)) (draws_as_left plan (known.runnable plan was) (λ some is. known.runs plan some was is)) whole
-    (λ cause verdict. causes plan (run_in plan journal) cause was whole.kept verdict) (finish_tells known plan was journal whole stands)
+pub wholes_audited : AcceptedPlanLaws → WholeTracesAreAudited
+wholes_audited known plan journal was whole stands =
+    traces_audited plan journal (known.worded plan was).scripts (wholes_serial known plan was) (lines_tell_alters plan (known.serial was.bytes plan was.is) (known.runnable plan was)) (draws_as_left plan (known.runnable plan was) (λ some is. known.runs plan some was is)) whole
+    (λ cause verdict. known.causes plan (run_in plan journal) cause was whole.kept verdict) (finish_tells known plan was journal whole stands)
 
 -- ... and of those that are kept and have no more turns than the plan allows
 pub kept_audited : WholeTracesAreAudited → TracesAreAudited

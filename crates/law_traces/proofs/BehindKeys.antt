@@ -1,20 +1,15 @@
 -- The key of a row for which a new tool reverts has a value.
-use Rattle.std.proofs.Common.{◌≡◌, ◌<◌, ℕ, Bool, true, false, List, [], ◌∷◌, ◌++◌, length, Option, Some, None, refl, sym, ap, ◌∙◌, subst, append_assoc, arith}
-use Rattle.std.specs.Prelude.{find, unwrap_or}
-use Rattle.std.specs.List.{AllByRecursion, slice_get}
-use Rattle.std.specs.Option.{option_map, option_to_list}
+use Rattle.std.proofs.Common.{◌≡◌, ◌<◌, ℕ, Bool, true, false, List, [], ◌∷◌, ◌++◌, length, Option, Some, None, refl, sym, ap, ◌∙◌, subst, append_assoc}
+use Rattle.std.specs.Prelude.{unwrap_or}
+use Rattle.std.specs.Option.{option_map}
 use Rattle.std.proofs.Math.Seq.{drop-append_seam}
 use Rattle.base_script.specs.declared.actor.Actor.TheVariants.{Apply}
 use Rattle.base_script.specs.declared.actor.Side.{Side}
 use Rattle.base_values.specs.Laws.{StoresAgain}
-use Rattle.base_values.specs.declared.gho_schema.schema.Column.{Column}
 use Rattle.base_values.specs.declared.value.Value.{Value}
-use Rattle.base_values.specs.GhoSchema.ClusteredKey.{is_not_null}
 use Rattle.base_values.specs.GhoSchema.Rows.{key_of, key_places}
 use Rattle.base_values.specs.GhoSchema.Tables.{IsRow}
-use Rattle.base_values.proofs.SchemaRules.Lists.{All-at}
 use Rattle.table_store.specs.Databases.{Database, TableRows, find_table}
-use Rattle.table_store.specs.RowLists.{is_at}
 use Rattle.server_model.specs.declared.answer.Answer.{Answer}
 use Rattle.server_model.specs.declared.answer.Answer.TheVariants as answers
 use Rattle.server_model.specs.declared.entry.Asked.{Asked}
@@ -24,12 +19,9 @@ use Rattle.server_model.specs.declared.request.Request.{Request}
 use Rattle.server_model.specs.declared.request.Request.TheVariants as requests
 use Rattle.server_model.specs.Blockers.{blocker, need}
 use Rattle.server_model.specs.Drawing.{filled}
-use Rattle.server_model.specs.EarlierAnswers.{events_in}
 use Rattle.server_model.specs.Effects.{effect_unless, is_outside}
-use Rattle.server_model.specs.Entries.{answer_at}
 use Rattle.server_model.specs.Listings.{events_read}
-use Rattle.server_model.specs.LockedRows.Coverage.{IsWellFormedTable}
-use Rattle.server_model.specs.LockedRows.Databases.{IsWellFormedDatabase, WhereFound}
+use Rattle.server_model.specs.LockedRows.Databases.{IsWellFormedDatabase}
 use Rattle.server_model.specs.PlainServer.{called_unless, calls, did, does, given_at, serves}
 use Rattle.server_model.specs.States.{State, is_in_transaction, session_of, view}
 use Rattle.plan_data.specs.PlanData.{PlanData, no_schema, old_schema}
@@ -38,12 +30,9 @@ use Rattle.tool_program.specs.declared.event_applier.applier.ApplyStep.{ApplySte
 use Rattle.tool_program.specs.declared.event_applier.applier.ApplyStep.TheVariants as batches
 use Rattle.tool_program.specs.declared.event_applier.applier.Batch.{Batch}
 use Rattle.tool_program.specs.declared.event_applier.applier.Part.{Part}
-use Rattle.tool_program.specs.declared.event_applier.applier.Part.TheVariants.{Whole, Removal, Return}
 use Rattle.tool_program.specs.declared.chunk_copier.copier.Copier.{Copier}
-use Rattle.tool_program.specs.EventApplier.Appliers.{Doing, doing_at, doing_in, in_part, row_done}
-use Rattle.tool_program.specs.EventApplier.Appliers.Doing.{Putting, Removing, Changing}
+use Rattle.tool_program.specs.EventApplier.Appliers.{doing_at, row_done}
 use Rattle.tool_program.specs.EventApplier.Appliers as appliers
-use Rattle.tool_program.specs.Failures.{row_in}
 use Rattle.tool_program.specs.JournalWords.Journals.{IsAnswered, IsFaithful, heard, inner_answer, opens, state_at}
 use Rattle.tool_program.specs.JournalWords.Sessions.{KeepsSessions}
 use Rattle.tool_finish.specs.Checkpoints.{has_checkpoint}
@@ -52,82 +41,35 @@ use Rattle.tool_finish.specs.Finishes as finishes
 use Rattle.tool_finish.specs.WholeJournals.{IsUnfitBehind, row_at}
 use Rattle.tool_finish.specs.declared.stage.Stage.{Stage}
 use Rattle.tool_finish.specs.declared.stage.Stage.TheVariants.{Applying, Copying}
-use Rattle.proof_journals.specs.Ghost.Doings.{planned}
 use Rattle.proof_journals.specs.Ghost.HeldKeys.{Clustered}
-use Rattle.proof_journals.specs.Ghost.OwnChanges.{own_changes}
 use Rattle.proof_journals.specs.Ghost.Rows.Timelines.{Migration}
 use Rattle.proof_journals.specs.Machine.Runnable.{IsRunnable}
-use Rattle.proof_journals.specs.Plans.{IsSerialPlan, limits_of, scene_of}
+use Rattle.proof_journals.specs.Plans.{IsSerialPlan}
 use Rattle.proof_journals.specs.Run.Kept.{IsKept}
 use Rattle.proof_journals.proofs.Ghost.Keys.{clustered}
 use Rattle.proof_journals.proofs.Ghost.Turns.{along_next}
 use Rattle.proof_journals.proofs.Machine.Calling.{served_along}
 use Rattle.proof_journals.proofs.Machine.Seated.{IsKnown, all_known}
 use Rattle.proof_journals.proofs.ServerTurns.Agreements.{along_front}
-use Rattle.proof_migration.specs.Migration.Applier.ApplierPlace.{IsBatchReported, StepKnows}
-use Rattle.proof_migration.specs.Migration.Machines.{MigrationStands}
 use Rattle.proof_migration.specs.Migration.Planning.{migration_of}
 use Rattle.proof_migration.specs.Program.Turns.Laws.{IsMigrationOf}
 use Rattle.proof_migration.specs.ToolPhase.Runnable.{IsAlterable}
 use Rattle.proof_migration.specs.ToolPhase.Unaltered.{IsUnaltered}
-use Rattle.proof_migration.proofs.Migration.Applier.Keys.{ValueAt, value_of}
 use Rattle.proof_migration.proofs.Migration.Applier.Knowing.{next_at}
-use Rattle.proof_migration.proofs.Migration.Applier.Planning.{DoesRows, NextDoing, next_doing, planned_alike, planned_rows}
+use Rattle.proof_migration.proofs.Migration.Applier.NextStatement.{next_statement}
 use Rattle.proof_migration.proofs.Program.Follows.{migration, own_table}
 use Rattle.proof_migration.proofs.Program.Turns.ActorStates.{SomeActorStates, some_actor_states}
 use Rattle.proof_migration.proofs.ToolPhase.Unaltered.Runs.{unaltered_runs}
 use Rattle.proof_bounds.specs.AttemptTurns.Attempts.{MayTry}
 use Rattle.proof_plain.specs.Plans.{IsShort, PlainPlan}
-use Rattle.proof_resume.specs.Finish.Walks.{StandsFor, machines_of}
+use Rattle.proof_plain.proofs.UnfitKeys.{found_keyed, row_keyed, statement_row}
+use Rattle.proof_migration.specs.Program.Turns.Goes.{StandsFor}
 use Rattle.proof_resume.proofs.Finish.Machines.{IsApplierOf}
 use Rattle.proof_resume.proofs.Finish.Prompt.{its_request}
 use Rattle.proof_resume.proofs.Finish.Runs.{Knows}
 use Rattle.proof_resume.proofs.Finish.Walks.{Walks, WalksAt, finish_walks}
 use Rattle.proof_resume.proofs.Starts.Exchanging.{finishes_start_right}
 use Rattle.proof_resume.proofs.Starts.Finishable.{Migrates, migrates}
-
--- ---- keys of rows
-
--- the key of a row that fits has a value where the key has columns, none of which may be null
-row_keyed : (columns : List Column) (row : List Value) → IsRow columns row → (places : List ℕ) → 0 < length places → AllByRecursion (λ place. is_not_null (slice_get columns place) ≡ true) places → 0 < length (key_of places row)
-unfolding key_of
-row_keyed columns row fits [] some full = absurd (let no : ⊥ = omega (arith, some) in no)
-row_keyed columns row fits (place ∷ places) some full = by (slice_get columns place) refl full.0 where
-  by : (column : Option Column) → slice_get columns place ≡ column → is_not_null column ≡ true → 0 < length (option_to_list (slice_get row place) ++ key_of places row)
-  by None there is = absurd (let no : false ≡ true = is in cc)
-  by (Some column) there is =
-      let has : ValueAt column row place = value_of columns row place column fits there in
-      subst (λ (v : Option Value). 0 < length (option_to_list v ++ key_of places row)) (sym has.here) (omega (arith))
-
--- no row has a key without values
-none_at : (places : List ℕ) (row : List Value) → 0 < length (key_of places row) → is_at places [] row ≡ false
-none_at places row some = by (key_of places row) refl some where
-  by : (key : List Value) → key_of places row ≡ key → 0 < length key → is_at places [] row ≡ false
-  by [] is some = absurd (let no : ⊥ = omega (arith, some) in no)
-  by (value ∷ key) is some = rw (is) refl
-
-none_found : (table : TableRows) → IsWellFormedTable table → (rows : List (List Value)) → AllByRecursion (IsRow table.schema.columns) rows → find (is_at (key_places table.schema) []) rows ≡ None
-none_found table well [] fit = refl
-none_found table well (row ∷ rows) fit =
-    rw (none_at (key_places table.schema) row (row_keyed table.schema.columns row fit.0 (key_places table.schema) well.keyed.some well.keyed.not_null)) (none_found table well rows fit.1)
-
-found_keyed : (found : Option TableRows) (key row : List Value) → WhereFound IsWellFormedTable found → row_in found key ≡ Some row → 0 < length key
-found_keyed None key row well is = absurd cc
-found_keyed (Some table) (value ∷ key) row well is = omega (arith)
-found_keyed (Some table) [] row well is = absurd (no (sym (none_found table well table.rows well.is_table.rows_fit) ∙ is)) where
-  no : None ≡ Some row → ⊥
-  no same = cc
-
-done_rows : (columns : List Column) (part : Part) (doing : Doing) → DoesRows columns doing → IsRow columns (row_done (Some (in_part part doing)))
-done_rows columns Whole (Putting row) fits = fits
-done_rows columns Whole (Removing row) fits = fits
-done_rows columns Whole (Changing before after) fits = fits.1
-done_rows columns Removal (Putting row) fits = fits
-done_rows columns Removal (Removing row) fits = fits
-done_rows columns Removal (Changing before after) fits = fits.0
-done_rows columns Return (Putting row) fits = fits
-done_rows columns Return (Removing row) fits = fits
-done_rows columns Return (Changing before after) fits = fits.1
 
 -- ---- which requests are refused for a value
 
@@ -237,17 +179,8 @@ module _ (plan : PlanData) (is : IsAlterable plan) (again : StoresAgain) (runs :
     statement_fits : (copier : Copier) (applier : Applier) → IsApplierOf plan applier → StandsFor plan m at is.table.rows journal copier applier → (batch : Batch) (count : ℕ) (part : Part) → applier.step ≡ batches.Applying batch count part → IsRow m.schema.columns (row_done (doing_at journal applier applier.step))
     statement_fits copier applier its stands_for batch count part here =
         let some : SomeActorStates journal = some_actor_states journal known.sessions in
-        let stands : MigrationStands m at is.table.rows (limits_of plan) (scene_of plan []) journal (machines_of copier some.copier applier some.applier) = stands_for some.copier some.applier some.actor_states in
-        let knows : StepKnows m journal (batches.Applying batch count part) = subst (StepKnows m journal) here stands.applier_knows.step in
-        let reported : IsBatchReported m journal batch = knows.0 in
-        let next_one : NextDoing (planned m (own_changes m.name reported.events)) count = next_doing (planned m (own_changes m.name reported.events)) count (subst (λ (n : ℕ). count < n) reported.counted knows.1) in
-        let code_plan : appliers.planned applier (events_in (answer_at journal batch.read)) ≡ planned m (own_changes m.name reported.events) =
-        ap (λ (a : Option Answer). appliers.planned applier (events_in a)) reported.reported
-        ∙ planned_alike m applier reported.events of.finds (its.table ∙ sym of.of.name) (its.schema ∙ sym of.of.new) (its.map ∙ sym of.of.columns) reported.rows in
-        let there : doing_at journal applier (batches.Applying batch count part) ≡ Some (in_part part next_one.doing) = ap (λ (l : List Doing). doing_in part (slice_get l count)) code_plan ∙ ap (doing_in part) next_one.there in
-        let fits : DoesRows m.schema.columns next_one.doing =
-        All-at (DoesRows m.schema.columns) (planned m (own_changes m.name reported.events)) count next_one.doing (planned_rows m (own_changes m.name reported.events) reported.rows) next_one.there in
-        subst (λ (d : Option Doing). IsRow m.schema.columns (row_done d)) (sym (ap (doing_at journal applier) here ∙ there)) (done_rows m.schema.columns part next_one.doing fits)
+        statement_row m journal applier batch count part
+        (next_statement m of.finds journal applier (its.table ∙ sym of.of.name) (its.schema ∙ sym of.of.new) (its.map ∙ sym of.of.columns) (stands_for some.copier some.applier some.actor_states).applier_knows batch count part here)
 
     applied_fits : (copier : Copier) (applier : Applier) → IsApplierOf plan applier → StandsFor plan m at is.table.rows journal copier applier → finishes.calls Apply (appliers.next journal applier) ≡ Some (entry.actor, entry.asked) → (NoValue entry.answer → ⊥) → IsRow m.schema.columns (row_done (doing_at journal applier applier.step))
     applied_fits copier applier its stands asks refused = by applier.step refl where

@@ -1,23 +1,16 @@
 -- Behind a run whose values are plain a new tool's are plain too: the server stays plain, and so is each answer.
-use Rattle.std.proofs.Common.{◌≡◌, ℕ, zero, suc, ◌+◌, ◌-◌, ◌*◌, ◌^◌, ◌<◌, ◌≤◌, ◌==◌, ◌&&◌, ◌||◌, Bool, true, false, not, cond, List, [], ◌∷◌, ◌++◌, length, Option, Some, None, refl, sym, ap, ◌∙◌, subst, arith, lit<}
+use Rattle.std.proofs.Common.{◌≡◌, ℕ, ◌+◌, ◌-◌, ◌*◌, ◌^◌, ◌<◌, ◌≤◌, ◌==◌, ◌&&◌, Bool, true, false, not, cond, List, [], ◌∷◌, ◌++◌, length, Option, Some, None, refl, sym, ap, ◌∙◌, subst}
 use Rattle.std.specs.Prelude.{is_some}
-use Rattle.std.specs.List.{AllByRecursion, slice_get}
 use Rattle.std.proofs.Math.Seq.{drop-append_seam}
-use Rattle.std.proofs.lemmas.List.{length-append}
 use Rattle.std.proofs.lemmas.Option.{same_Some}
 use Rattle.base_values.specs.ToolNames.{log_name}
 use Rattle.base_values.proofs.SchemaRules.Lists.{All-append}
 use Rattle.base_script.specs.declared.actor.Actor.{Actor}
 use Rattle.base_script.specs.declared.actor.Actor.TheVariants.{Apply, Copy, Insp, Ren}
 use Rattle.base_script.specs.declared.actor.Side.{Side}
-use Rattle.base_script.specs.declared.statement.Set.{Set}
-use Rattle.base_values.specs.declared.gho_schema.schema.Column.{Column}
-use Rattle.base_values.specs.declared.row_conversion.map.MapColumn.{MapColumn}
-use Rattle.base_values.specs.declared.value.Value.{Value}
-use Rattle.server_model.specs.EarlierAnswers.{end_in}
-use Rattle.server_model.specs.Entries.{answer_at, answer_of, is_client, is_command}
+use Rattle.server_model.specs.Entries.{is_client, is_command}
 use Rattle.server_model.specs.PlainServer.{given_at, leaves, recounted, serves}
-use Rattle.server_model.specs.States.{State, connected, is_live, unread}
+use Rattle.server_model.specs.States.{State, unread}
 use Rattle.server_model.specs.declared.answer.Answer.{Answer}
 use Rattle.server_model.specs.declared.answer.Answer.TheVariants as answers
 use Rattle.server_model.specs.declared.answer.KeyRange.{KeyRange}
@@ -34,17 +27,11 @@ use Rattle.tool_changelog.specs.declared.checkpoint.Reach.{Reach}
 use Rattle.tool_changelog.specs.declared.checkpoint.Reach.TheVariants as reaches
 use Rattle.tool_notes.specs.declared.checkpoint.Checkpoint.{Checkpoint}
 use Rattle.tool_program.specs.ChunkCopier.Copiers as copiers
-use Rattle.tool_program.specs.EventApplier.Appliers.{Changing, Doing, Putting, Removing}
 use Rattle.tool_program.specs.EventApplier.Appliers as appliers
-use Rattle.tool_program.specs.JournalWords.Journals.{IsAnswered, IsFaithful, heard, inner_answer, opens, opens_if, state_at}
+use Rattle.tool_program.specs.JournalWords.Journals.{IsAnswered, IsFaithful, heard, inner_answer, opens, state_at}
 use Rattle.tool_program.specs.JournalWords.Sessions.{KeepsSessions}
 use Rattle.tool_program.specs.declared.chunk_copier.copier.Copier.{Copier}
-use Rattle.tool_program.specs.declared.chunk_copier.copier.CopyRange.{CopyRange}
-use Rattle.tool_program.specs.declared.chunk_copier.copier.CopyStep.{CopyStep}
-use Rattle.tool_program.specs.declared.chunk_copier.copier.CopyStep.TheVariants as chunks
 use Rattle.tool_program.specs.declared.event_applier.applier.Applier.{Applier}
-use Rattle.tool_program.specs.declared.event_applier.applier.ApplyStep.{ApplyStep}
-use Rattle.tool_program.specs.declared.event_applier.applier.ApplyStep.TheVariants as batches
 use Rattle.tool_finish.proofs.Walking.{stage_more}
 use Rattle.tool_finish.specs.Callable.{IsFinishable}
 use Rattle.tool_finish.specs.Finishes.{Asking, IsFinish, IsFinishTurn, applied, applier_from, applying, calls, checkpoint_in, copied, copier_from, copies, copying, counter_read, counting, cuts, dropped_log, first_live, has_read, listed, next, range_from, ranged, rolls_back, stage_behind, took}
@@ -56,85 +43,16 @@ use Rattle.tool_finish.specs.declared.stage.UnfitRow.{UnfitRow}
 use Rattle.proof_journals.specs.ServerFacts.Invariants.{IsServing}
 use Rattle.proof_journals.proofs.Faces.{opened_live}
 use Rattle.proof_journals.proofs.Machine.Seated.{state_more}
-use Rattle.proof_journals.proofs.ServerFacts.Calls.{calls_serve, connected_serves, losses_serve}
+use Rattle.proof_journals.proofs.ServerFacts.Calls.{calls_serve, losses_serve}
 use Rattle.proof_migration.proofs.Program.Turns.Sizes.{Fixed, fixed_took, map_took}
-use Rattle.proof_plain.specs.Plain.{BytesAsked, BytesKey, BytesMap, BytesRequest, HasBytes, PlainAnswer, PlainRow, PlainState}
+use Rattle.proof_plain.specs.Plain.{BytesAsked, BytesMap, BytesRequest, PlainAnswer, PlainState}
 use Rattle.proof_plain.specs.Plans.{BytesCopyRange, PlainPlan}
-use Rattle.proof_plain.proofs.Counts.{IsFew, connected_few, left_few, view_few, view_formed}
-use Rattle.proof_plain.proofs.Requests.{DoingIf, PlainAnswers, doing_plain}
-use Rattle.proof_plain.proofs.Serving.{BytesCalled, SeesFew, connected_plain, left_plain, served_plain}
-use Rattle.proof_plain.proofs.Statements.{source_bytes}
+use Rattle.proof_plain.proofs.Counts.{IsFew}
+use Rattle.proof_plain.proofs.Opened.{heard_plain, leaves_few, opens_plain, opens_serving, sees_few}
+use Rattle.proof_plain.proofs.Requests.{PlainAnswers, applied_bytes, copied_bytes}
+use Rattle.proof_plain.proofs.Serving.{BytesCalled, SeesFew, left_plain, served_plain}
 use Rattle.proof_resume.proofs.Reached.Copying.{range_took}
 use Rattle.law_traces.proofs.NewTools.{CallsFor, ItsTurn, Loses, of_stage}
-
--- ---- what was answered before
-
-abbrev AnswerIf : Option Answer → Type 0
-AnswerIf None = Unit {0}
-AnswerIf (Some answer) = PlainAnswer answer
-
-taken_answer : (journal : List Entry) (place : ℕ) → PlainAnswers journal → AnswerIf (answer_of (slice_get journal place))
-taken_answer [] place all = tt
-taken_answer (entry ∷ journal) zero all = all.0
-taken_answer (entry ∷ journal) (suc place) all = taken_answer journal place all.1
-
-plain_answer : (journal : List Entry) (turn : ℕ) → PlainAnswers journal → AnswerIf (answer_at journal turn)
-unfolding answer_at
-plain_answer journal turn all = taken_answer journal (turn - 1) all
-
-plain_end : (answer : Option Answer) → AnswerIf answer → BytesKey (end_in answer)
-plain_end (Some (answers.Keys keys end)) plain = plain
-plain_end (Some (answers.End end)) plain = plain
-plain_end answer plain = tt
-
--- ---- what the copier and the applier ask
-
-row_bytes : (columns : List MapColumn) (row : List Value) → BytesMap columns → PlainRow row → AllByRecursion HasBytes (appliers.given_values columns row)
-row_bytes [] row have plain = tt
-row_bytes (column ∷ columns) row have plain = (source_bytes column.origin row have.0 plain, row_bytes columns row have.1 plain)
-
-sets_bytes : (columns : List Column) (values : List Value) → AllByRecursion HasBytes values → AllByRecursion (λ (set : Set). HasBytes set.value) (appliers.sets columns values)
-sets_bytes [] values have = tt
-sets_bytes (column ∷ columns) [] have = tt
-sets_bytes (column ∷ columns) (value ∷ values) have = (have.0, sets_bytes columns values have.1)
-
-module _ (journal : List Entry) (all : PlainAnswers journal) where
-  doing_bytes : (applier : Applier) (doing : Option Doing) → BytesMap applier.map → DoingIf doing → BytesRequest (appliers.statement_result applier doing)
-  doing_bytes applier None have plain = tt
-  doing_bytes applier (Some (Putting row)) have plain = row_bytes applier.map row have plain
-  doing_bytes applier (Some (Removing row)) have plain = tt
-  doing_bytes applier (Some (Changing before after)) have plain = sets_bytes applier.new_schema.columns (appliers.given_values applier.map after) (row_bytes applier.map after have plain.1)
-
-  step_bytes : (applier : Applier) (step : ApplyStep) → BytesMap applier.map → BytesRequest (appliers.call_at journal applier step)
-  step_bytes applier batches.Reading have = tt
-  step_bytes applier (batches.Beginning batch) have = tt
-  step_bytes applier (batches.Applying batch done part) have = doing_bytes applier (appliers.doing_at journal applier (batches.Applying batch done part)) have (doing_plain journal applier (batches.Applying batch done part) all)
-  step_bytes applier (batches.Committing batch) have = tt
-
-  applier_bytes : (applier : Applier) → BytesMap applier.map → BytesRequest (appliers.next journal applier)
-  unfolding appliers.next
-  applier_bytes applier have = step_bytes applier applier.step have
-
-  key_bytes : (copier : Copier) (key : Option (List Value)) → BytesMap copier.map → BytesAsked (copiers.copies copier key)
-  key_bytes copier None have = tt
-  key_bytes copier (Some key) have = have
-
-  range_bytes : (copier : Copier) (range : CopyRange) (step : CopyStep) → BytesMap copier.map → BytesKey range.top → BytesAsked (copiers.call_at journal copier range step)
-  range_bytes copier range chunks.Choosing have top = top
-  range_bytes copier range (chunks.Spanning reported size) have top = plain_end (answer_at journal reported) (plain_answer journal reported all)
-  range_bytes copier range (chunks.Copying chunk done) have top = key_bytes copier (copiers.key_at journal (chunks.Copying chunk done)) have
-  range_bytes copier range (chunks.Committing chunk) have top = tt
-
-  copier_bytes : (copier : Copier) → BytesMap copier.map → BytesCopyRange copier.range → BytesAsked (copiers.next journal copier)
-  unfolding copiers.next
-  copier_bytes copier have ranged = by copier.is_copied where
-    in_range : (range : Option CopyRange) → BytesCopyRange range → BytesAsked (copiers.call_in journal copier range)
-    in_range None ranged = tt
-    in_range (Some range) ranged = range_bytes copier range copier.step have ranged
-
-    by : (b : Bool) → BytesAsked (cond b None (copiers.call_in journal copier copier.range))
-    by true = tt
-    by false = in_range copier.range ranged
 
 -- ---- a stage
 
@@ -167,8 +85,8 @@ module _ (plan : PlanData) (plain : PlainPlan plan) (journal : List Entry) (all 
   next_bytes (ReadingCounter found) at is = of_call Insp _ tt is
   next_bytes (SettingCounter found number) at is = of_call Insp _ at is
   next_bytes (Ranging found) at is = of_call Insp _ tt is
-  next_bytes (Copying copier applier) at is = of_copy (copiers.next journal copier) (copier_bytes journal all copier (subst BytesMap (sym at.0) plain.map) at.1) is
-  next_bytes (Applying applier) at is = of_call Apply (appliers.next journal applier) (applier_bytes journal all applier (subst BytesMap (sym at) plain.map)) is
+  next_bytes (Copying copier applier) at is = of_copy (copiers.next journal copier) (copied_bytes journal copier (subst BytesMap (sym at.0) plain.map) at.1 all) is
+  next_bytes (Applying applier) at is = of_call Apply (appliers.next journal applier) (applied_bytes journal applier (subst BytesMap (sym at) plain.map) all) is
   next_bytes Exchanging at is = of_call Ren _ tt is
   next_bytes (DroppingLog old) at is = of_call Insp _ tt is
   next_bytes DroppingOld at is = of_call Insp _ tt is
@@ -261,54 +179,7 @@ module _ (plan : PlanData) (journal : List Entry) (state : State) (answer : Answ
   took_so Done at = tt
   took_so (Reverted row) at = tt
 
--- ---- a session that opens
-
-module _ (nothing tool : Bool) (number : ℕ) (state : State) where
-  opened_plain : number < 2 ^ 64 → PlainState state → PlainState (opens_if nothing tool number state)
-  unfolding opens_if
-  opened_plain small plain = by (nothing || is_live state number) where
-    by : (b : Bool) → PlainState (cond b state (connected number tool state))
-    by true = plain
-    by false = connected_plain number tool state small plain
-
-  opened_few : (rows events : ℕ) → IsFew rows events state → IsFew rows events (opens_if nothing tool number state)
-  unfolding opens_if
-  opened_few rows events few = by (nothing || is_live state number) where
-    by : (b : Bool) → IsFew rows events (cond b state (connected number tool state))
-    by true = few
-    by false = connected_few number rows events tool state few
-
-  opened_serving : IsServing state → IsServing (opens_if nothing tool number state)
-  unfolding opens_if
-  opened_serving serving = by (nothing || is_live state number) where
-    by : (b : Bool) → IsServing (cond b state (connected number tool state))
-    by true = serving
-    by false = connected_serves number tool state serving
-
--- ---- numbers
-
-products : (n m : ℕ) → n * (m + n) + (m + n + 1) ≤ (n + 1) * (m + (n + 1))
-products n m = grind arith
-
-less_product : (n m : ℕ) → n ≤ m → n * (m + n) ≤ m * (m + m)
-less_product n m less = grind (arith, less)
-
-below : (a b c : ℕ) → a ≤ b → b < c → a < c
-below a b c one two = omega (arith, one, two)
-
-log_short : (n : ℕ) → n ≤ 2 ^ 31 → n * (2 ^ 31 + n) < 2 ^ 64
-log_short n less = below (n * (2 ^ 31 + n)) (2 ^ 31 * (2 ^ 31 + 2 ^ 31)) (2 ^ 64) (less_product n (2 ^ 31) less) (lit< tt)
-
-at_most : {a b c : ℕ} → a ≤ b → b ≤ c → a ≤ c
-at_most {a} {b} {c} one two = omega (arith, one, two)
-
 -- ---- behind a run
-
-heard_given : (asked : Asked) (answer : Answer) → PlainAnswer answer → PlainAnswer (heard None (given_at None asked answer))
-heard_given (Call request) answer plain = plain
-heard_given Poll answer plain = plain
-heard_given (Command word) answer plain = plain
-heard_given Cut answer plain = tt
 
 -- a new tool's turn is a loss or a call
 asks_other : (plan : PlanData) (entry : Entry) → ItsTurn plan entry → (asked : Asked) → entry.asked ≡ asked → ((request : Request) → asked ≡ Call request → ⊥) → (asked ≡ Cut → ⊥) → ⊥
@@ -342,41 +213,21 @@ module _ (plan : PlanData) (plain : PlainPlan plan) (run turns : List Entry) (en
   called_bytes : BytesCalled entry.asked
   called_bytes = next_bytes plan plain journal now.answers entry (stage_behind plan run turns) now.stage_is given
 
-  serving : IsServing open_now
-  serving = opened_serving (is_command entry.asked) (not (is_client entry.actor)) entry.session before now.serving
-
-  few_now : IsFew (2 ^ 31 + length journal) (length journal * (2 ^ 31 + length journal)) open_now
-  few_now = opened_few (is_command entry.asked) (not (is_client entry.actor)) entry.session before (2 ^ 31 + length journal) (length journal * (2 ^ 31 + length journal)) now.few
-
   open_plain : PlainState open_now
-  open_plain = opened_plain (is_command entry.asked) (not (is_client entry.actor)) entry.session before small now.state
+  open_plain = opens_plain plan journal entry short small now.state now.few now.serving
 
   sees : SeesFew entry.session open_now
-  sees = record {
-    short =
-        let a = few_now.log in
-        let b = log_short (length journal) (omega (arith, short)) in
-        below (length open_now.log) (length journal * (2 ^ 31 + length journal)) (2 ^ 64) (omega (arith, a)) b;
-    few = view_few entry.session (2 ^ 31 + length journal) (length journal * (2 ^ 31 + length journal)) open_now (omega (arith, short)) serving few_now;
-    well_formed = view_formed entry.session open_now serving;
-  }
+  sees = sees_few plan journal entry short small now.state now.few now.serving
+
+  serving : IsServing open_now
+  serving = opens_serving plan journal entry short small now.state now.few now.serving
 
   -- *Its answer is plain*
   pub said_plain : PlainAnswer entry.answer
   unfolding inner_answer
   said_plain =
       subst PlainAnswer (sym (answered.answer ∙ ap (λ (side : Option Side). heard side (given_at side entry.asked (serves open_now entry.session entry.asked).answer)) turn.side))
-      (heard_given entry.asked (serves open_now entry.session entry.asked).answer (served_plain entry.session open_now entry.asked small open_plain sees called_bytes).answer)
-
-  few_after : IsFew (2 ^ 31 + length journal + 1) (length journal * (2 ^ 31 + length journal) + (2 ^ 31 + length journal + 1)) (state_at plan more)
-  few_after = subst (IsFew (2 ^ 31 + length journal + 1) (length journal * (2 ^ 31 + length journal) + (2 ^ 31 + length journal + 1))) (sym (state_more plan journal entry))
-      (left_few entry.session (2 ^ 31 + length journal) (length journal * (2 ^ 31 + length journal)) open_now serving few_now entry.side entry.asked)
-
-  fewer : (n : ℕ) → n ≡ length journal + 1 → IsFew (2 ^ 31 + n) (n * (2 ^ 31 + n)) (state_at plan more)
-  fewer n is = subst (λ (k : ℕ). IsFew (2 ^ 31 + k) (k * (2 ^ 31 + k)) (state_at plan more)) (sym is) (record {
-    rows = λ name. let a = few_after.rows name in omega (arith, a);
-    log = let a = few_after.log in let b = products (length journal) (2 ^ 31) in at_most a b;
-  })
+      (heard_plain None entry.asked (serves open_now entry.session entry.asked).answer (served_plain entry.session open_now entry.asked small open_plain sees called_bytes).answer)
 
   its : ItsTurn plan entry
   its = of_stage plan journal entry (stage_behind plan run turns) given
@@ -399,7 +250,7 @@ module _ (plan : PlanData) (plain : PlainPlan plan) (run turns : List Entry) (en
   pub goes_plain : PlainBehind plan more (stage_behind plan run (turns ++ entry ∷ []))
   goes_plain = record {
     state = subst PlainState (sym (state_more plan journal entry)) (left_plain entry.side entry.session open_now entry.asked small open_plain sees called_bytes);
-    few = fewer (length more) (length-append journal (entry ∷ []));
+    few = leaves_few plan journal entry short small now.state now.few now.serving;
     answers = All-append (λ (one : Entry). PlainAnswer one.answer) journal (entry ∷ []) now.answers (said_plain, tt);
     serving = serving_after;
     stage_is = subst (PlainStage plan) (sym (stage_more plan run turns entry)) (took_so plan more (state_at plan more) entry.answer said_plain (stage_behind plan run turns) now.stage_is);

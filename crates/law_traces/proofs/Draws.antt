@@ -2,7 +2,6 @@
 use Rattle.std.proofs.Common.{◌≡◌, ℕ, Bool, true, false, not, cond, List, [], ◌∷◌, ◌++◌, Option, Some, None, refl, sym, ap, ◌∙◌, subst}
 use Rattle.std.specs.Prelude.{is_some}
 use Rattle.std.specs.List.{AllByRecursion, list_any}
-use Rattle.std.specs.Option.{option_map}
 use Rattle.std.specs.Str.{bytes_eq}
 use Rattle.std.proofs.lemmas.Bool.{true≢false}
 use Rattle.table_store.specs.Databases.{Database, TableRows, find_table}
@@ -48,12 +47,12 @@ use Rattle.proof_journals.proofs.Machine.Clients.{Next, calls_line, client_next,
 use Rattle.proof_journals.proofs.Machine.Journals.{IsRun}
 use Rattle.proof_journals.proofs.Actors.{placed}
 use Rattle.proof_journals.proofs.Machine.Seated.{IsKnown, IsServed, all_known, own_waiting}
-use Rattle.proof_journals.proofs.Run.Living.{all_living, own_kind}
+use Rattle.proof_journals.proofs.Run.Living.{all_living}
 use Rattle.proof_journals.proofs.Naming.{extras_open, extras_serial, left_is}
 use Rattle.proof_journals.proofs.PlanJournals.{PlanHolds, plan_goes}
+use Rattle.proof_migration.proofs.ToolServes.{session_of_tool, tool_serves}
 use Rattle.proof_migration.proofs.ToolPhase.Hearing.{opened_tables}
 use Rattle.proof_migration.proofs.ToolPhase.Unaltered.Away.{IsKnownAsked, all_asked}
-use Rattle.proof_migration.proofs.ToolServes.{tool_serves}
 use Rattle.run_audit.specs.Audits.{draws_in, first_draws, word_draws}
 use Rattle.proof_audit.specs.Laws.{DrawsAsLeft, MayDraw}
 use Rattle.proof_audit.proofs.Wholes.{IsTurn, LastTurn, OfRun, OfTool, kept_before, last_turn, planned_next, run_next, turn_next, whole_before, whole_faithful, whole_sessions, whole_turns}
@@ -202,10 +201,6 @@ module _ (plan : PlanData) (runs : IsRunnable plan) (before : List Entry) (entry
 
 -- ---- a new tool's turn draws nothing
 
-tool_in : (found : Option Session) → option_map (λ (s : Session). s.is_tool) found ≡ Some true → is_of_tool found ≡ true
-tool_in None is = absurd cc
-tool_in (Some session) is = let same : session.is_tool ≡ true = cc in same
-
 module _ (plan : PlanData) (before : List Entry) (entry : Entry) (whole : IsWhole plan (before ++ entry ∷ [])) where
   begun : IsWhole plan before
   begun = whole_before plan before (entry ∷ []) whole
@@ -225,9 +220,7 @@ module _ (plan : PlanData) (before : List Entry) (entry : Entry) (whole : IsWhol
 
   -- its session is the tool's
   of_tool : is_command entry.asked ≡ false → is_client entry.actor ≡ false → is_of_tool (session_of entry.session opened.sessions) ≡ true
-  of_tool called tool =
-      tool_in (session_of entry.session opened.sessions)
-      (own_kind before (state_at plan before) entry (all_living plan before (whole_faithful plan before begun) (whole_sessions plan before begun)) seated.sessions (placed before entry turn.seated) turn.answered called ∙ ap (λ (b : Bool). Some (not b)) tool)
+  of_tool = session_of_tool before (state_at plan before) entry (all_living plan before (whole_faithful plan before begun) (whole_sessions plan before begun)) seated.sessions (placed before entry turn.seated) turn.answered
 
   pub undrawn : IsBehindTurn plan entry → is_some entry.draw ≡ true → ⊥
   undrawn behind drew = by behind.its where

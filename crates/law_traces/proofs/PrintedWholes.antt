@@ -40,7 +40,6 @@ use Rattle.proof_plain.proofs.Requests.{doing_plain}
 use Rattle.proof_plain.proofs.Statements.{found_plain}
 use Rattle.proof_literals.proofs.Finals.{journal_short}
 use Rattle.proof_literals.proofs.ReadLimits.{small_plan}
-use Rattle.proof_plans.specs.Laws.{AcceptedCausesStand}
 use Rattle.proof_plans.specs.ReadPlans.Laws.{WasRead}
 use Rattle.proof_resume.specs.Starts.Laws.{KeptRunsAreFinishable}
 use Rattle.proof_audit.specs.Wholes.{AreNewTools, HasItsCause, IsWhole, MayGoOn}
@@ -52,6 +51,8 @@ use Rattle.top_trace.specs.Texts.{trace_text}
 use Rattle.top_trace_reader.specs.declared.whole.TheConstants.{TRACE_LIMIT}
 use Rattle.top_trace_reader.specs.Traces.{read_trace}
 use Rattle.law_texts.specs.PrintedTraces.{CanPrintCause, CanPrintTrace, CanPrintVerdict, PrintedTracesAreRead, text_of}
+use Rattle.proof_resume.proofs.Finish.Verdicts.{reverted_finishes_did_not}
+use Rattle.law_traces.specs.AcceptedPlans.{AcceptedPlanLaws}
 use Rattle.law_traces.specs.Laws.{WholeTracesAreAudited}
 use Rattle.law_traces.specs.Printed.{HasOneLineNames, HasPlainNames, HaveOneLineNames, PrintedTracesAreAudited, WholePrintedTracesAreAudited, tables_at, whole_text, whole_trace}
 use Rattle.law_traces.proofs.BehindKeys.{behind_keyed}
@@ -63,7 +64,7 @@ use Rattle.law_traces.proofs.PrintedCauses.{number_fits}
 use Rattle.law_traces.proofs.PrintedCauses as causes_print
 use Rattle.law_traces.proofs.PrintedRuns.{lines_short, table_prints, turns_print}
 use Rattle.law_traces.proofs.WholePrints.{WholePrints, behind_begins, goes, whole_prints}
-use Rattle.law_traces.proofs.WholeRuns.{Known, at, few_run, is, of, plain, runs, serial, tries}
+use Rattle.law_traces.proofs.WholeRuns.{at, few_run, is, of, plain, runs, serial, tries}
 
 small_front : (front back : List Entry) → AllByRecursion (λ (entry : Entry). entry.session < 2 ^ 64) (front ++ back) → AllByRecursion (λ (entry : Entry). entry.session < 2 ^ 64) front
 small_front [] back all = tt
@@ -136,7 +137,7 @@ module _ (plan : PlanData) (plainly : PlainPlan plan) (run_of : IsRunnable plan)
 
 -- ---- a whole journal
 
-module _ (known : Known) (stand : AcceptedCausesStand) (may_finish : KeptRunsAreFinishable) (reads : PrintedTracesAreRead) (audits : WholeTracesAreAudited) (bytes : List ℕ) (plan : PlanData) (journal : List Entry) (read_is : read bytes ≡ Ok plan) (text : IsUtf8 plan.table) (whole : IsWhole plan journal) (cause : HasItsCause plan journal)
+module _ (known : AcceptedPlanLaws) (may_finish : KeptRunsAreFinishable) (reads : PrintedTracesAreRead) (audits : WholeTracesAreAudited) (bytes : List ℕ) (plan : PlanData) (journal : List Entry) (read_is : read bytes ≡ Ok plan) (text : IsUtf8 plan.table) (whole : IsWhole plan journal) (cause : HasItsCause plan journal)
     (numbered : NumbersSessions (run_in plan journal)) (made : (state_at plan journal).made < 2 ^ 32) (named : HasPlainNames plan) (utf8 : IsUtf8 (whole_text bytes plan journal)) (limit : length (whole_text bytes plan journal) ≤ TRACE_LIMIT) where
   was : WasRead plan
   was = record { bytes = bytes; is = read_is; text = text }
@@ -185,7 +186,7 @@ module _ (known : Known) (stand : AcceptedCausesStand) (may_finish : KeptRunsAre
       let now : PlainRun plan run = all_plain plan run (plain known plan was) (runs known plan was) (serial known plan was) whole.kept short in
       let most = short.turns in
       causes_print.verdict_prints plan run (verdict_of plan run) (omega (arith, most)) (tries known plan was).some
-      (verdict_prints plan (plain known plan was) (runs known plan was) (serial known plan was) (is known plan was) known.again run whole.kept short now (λ one verdict. stand plan run one was whole.kept verdict)) (λ one verdict. stand plan run one was whole.kept verdict)
+      (verdict_prints plan (plain known plan was) (runs known plan was) (serial known plan was) (is known plan was) known.again run whole.kept short now (λ one verdict. known.causes plan run one was whole.kept verdict)) (λ one verdict. known.causes plan run one was whole.kept verdict)
 
   tool_verdict : (behind : List Entry) → turns ≡ behind → CanPrintVerdict (finish_verdict plan run turns)
   tool_verdict [] none = subst CanPrintVerdict (sym (ap (finish_verdict plan run) none ∙ none_unfinished plan run)) tt
@@ -194,7 +195,7 @@ module _ (known : Known) (stand : AcceptedCausesStand) (may_finish : KeptRunsAre
       behind_verdict plan (plain known plan was) (runs known plan was) (serial known plan was) run turns whole.kept short (finishable are) are (subst (IsWhole plan) (sym parts) whole) (subst (λ (all : List Entry). length all ≤ 2 ^ 31) (sym parts) few) (small turns refl) cause
       (λ turn key column number is_verdict unfit formed.
       behind_keyed plan (is known plan was) known.again (runs known plan was) (serial known plan was) (tries known plan was) (plain known plan was) run whole.kept short are.checkpoint
-      (unaltered_front plan run turns (known.reverted plan run turns (causes.Unfit turn key column number) (runs known plan was) (serial known plan was) whole.kept are.finish are.faithful is_verdict)) turns are.finish are.faithful turn key column number unfit formed)
+      (unaltered_front plan run turns (reverted_finishes_did_not plan run turns (causes.Unfit turn key column number) (runs known plan was) (serial known plan was) whole.kept are.finish are.faithful is_verdict)) turns are.finish are.faithful turn key column number unfit formed)
 
   ended : CanPrintVerdict (verdict_at plan journal)
   ended = by (has_ended plan run) refl where
@@ -228,8 +229,8 @@ module _ (known : Known) (stand : AcceptedCausesStand) (may_finish : KeptRunsAre
   )
 
 -- *Printed whole traces are audited yes*
-pub printed_wholes : Known → AcceptedCausesStand → KeptRunsAreFinishable → PrintedTracesAreRead → WholeTracesAreAudited → WholePrintedTracesAreAudited
-printed_wholes known stand may_finish reads audits bytes plan journal is text whole cause numbered made named utf8 limit = whole_read known stand may_finish reads audits bytes plan journal is text whole cause numbered made named utf8 limit
+pub printed_wholes : AcceptedPlanLaws → KeptRunsAreFinishable → PrintedTracesAreRead → WholeTracesAreAudited → WholePrintedTracesAreAudited
+printed_wholes known may_finish reads audits bytes plan journal is text whole cause numbered made named utf8 limit = whole_read known may_finish reads audits bytes plan journal is text whole cause numbered made named utf8 limit
 
 -- ---- a run alone
 

@@ -1,6 +1,7 @@
 //! What holds of the trace of a run: functions that do nothing, whose contracts are the laws.
 #![tactic(auto)]
 
+ghost use Rattle.law_traces.specs.AcceptedPlans.{AcceptedPlanLaws};
 ghost use Rattle.law_traces.specs.Laws.{TracesAreAudited, WholeTracesAreAudited};
 ghost use Rattle.law_traces.specs.Printed.{NamesAreOneLine, PrintedTracesAreAudited, ValuesArePlain, WholePrintedTracesAreAudited};
 ghost use Rattle.proof_audit.specs.AuditedTraces.{AuditsNameTheFirst, AuditsSayYes, LinesDecideTables};
@@ -16,8 +17,7 @@ use law_journals::plans::{
 use law_journals::reverts::renames_find_the_altered;
 use law_journals::runs::{accepted_runs_are_serial, accepted_runs_go_on};
 use law_texts::traces::printed_traces_are_read;
-use proof_resume::finish_laws::{finish_verdicts_are_right, finishes_are_runs};
-use proof_resume::start_laws::{finishes_exchange_altered, kept_runs_are_finishable};
+use proof_resume::start_laws::kept_runs_are_finishable;
 
 /// The lines of a run's trace tell how far each client is, and which actors have a session, also behind the turns of a new tool.
 pub fn lines_tell_actors()
@@ -44,9 +44,9 @@ pub fn lines_decide_tables()
     ensures { LinesDecideTables }
 {}
 
-/// The trace of every run of every accepted plan is audited yes, with the turns of a new tool behind it where one comes.
-pub fn whole_traces_are_audited()
-    ensures { WholeTracesAreAudited }
+/// What the laws of traces rest on: what every accepted plan has, and each of its runs.
+fn accepted_plans_stand()
+    ensures { AcceptedPlanLaws }
 {
     accepted_runs_are_serial();
     accepted_runs_go_on();
@@ -59,9 +59,13 @@ pub fn whole_traces_are_audited()
     read_plans_are_worded();
     read_options_allow();
     stored_values_store_again();
-    finishes_are_runs();
-    finishes_exchange_altered();
-    finish_verdicts_are_right();
+}
+
+/// The trace of every run of every accepted plan is audited yes, with the turns of a new tool behind it where one comes.
+pub fn whole_traces_are_audited()
+    ensures { WholeTracesAreAudited }
+{
+    accepted_plans_stand();
 }
 
 /// The trace of every run of every accepted plan is audited yes.
@@ -95,20 +99,7 @@ pub fn names_are_one_line()
 pub fn whole_printed_traces_are_audited()
     ensures { WholePrintedTracesAreAudited }
 {
-    accepted_runs_are_serial();
-    accepted_runs_go_on();
-    marked_journals_are_runs();
-    renames_find_the_altered();
-    renames_come_once();
-    read_plans_are_accepted();
-    read_plans_are_runnable();
-    read_plans_are_serial();
-    read_plans_are_worded();
-    read_options_allow();
-    stored_values_store_again();
-    finishes_are_runs();
-    finishes_exchange_altered();
-    finish_verdicts_are_right();
+    accepted_plans_stand();
     kept_runs_are_finishable();
     printed_traces_are_read();
     whole_traces_are_audited();
