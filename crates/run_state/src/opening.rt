@@ -1,7 +1,6 @@
 //! The run state of a plan without turns.
 
 ghost use Rattle.std.specs.Prelude.{◌≡◌, [], ◌∷◌, map, IfOk};
-ghost use Rattle.base_script.specs.declared.actor.Actor.TheVariants.{Op, Insp, Copy, Apply, Lock, Ren};
 ghost use Rattle.tool_program.specs.Orders.{actors};
 ghost use Rattle.base_values.specs.ToolNames.{log_name};
 ghost use Rattle.run_state.specs.Books.{free_actor_state, free_client, HasRoomFor, IsRunState};
@@ -11,8 +10,8 @@ use base_script::Actor;
 use base_values::tool_names::log_name;
 use base_values::{Duplicate, Name, Names, Sequence};
 use plan_data::Plan;
-use run_actors::ActorState;
 use run_actors::client_turns::ClientState;
+use run_actors::{ActorState, actor_at, actor_count};
 use std::alloc::{AllocError, Global};
 use tool_program::note_writer::Notes;
 use tool_state::tool_state::Tool;
@@ -29,34 +28,15 @@ fn free_actor_state(actor: Actor) -> ActorState
     }
 }
 
-/// The states of the tool's actors before the first turn.
-fn tool_actor_states(alloc: Global) -> Result<Vec<ActorState>, AllocError>
-    ensures { IfOk result (λ actor_states. actor_states.items ≡ map free_actor_state (Op ∷ Insp ∷ Copy ∷ Apply ∷ Lock ∷ Ren ∷ [])) }
-{
-    let mut actor_states = Vec::with_capacity(alloc, 6)?;
-    for actor in &[
-        Actor::Op,
-        Actor::Insp,
-        Actor::Copy,
-        Actor::Apply,
-        Actor::Lock,
-        Actor::Ren,
-    ] {
-        actor_states.push(free_actor_state(*actor))?;
-    }
-    Ok(actor_states)
-}
-
 /// The states of all actors before the first turn, in the fixed order.
-#[tactic(auto, unfolding(tool_program::specs::Orders::actors, tool_program::specs::Orders::clients_from))]
+#[tactic(auto, using(crate::proofs::FirstStates::one_more, crate::proofs::FirstStates::all_made))]
 fn actor_states_of(alloc: Global, plan: &Plan) -> Result<Vec<ActorState>, AllocError>
     ensures { IfOk result (λ actor_states. actor_states.items ≡ map free_actor_state (actors plan.now)) }
 {
-    let mut actor_states = tool_actor_states(alloc)?;
-    let mut client = 1;
-    for _script in plan.clients().as_slice() {
-        actor_states.push(free_actor_state(Actor::Client(client)))?;
-        client += 1;
+    let count = actor_count(plan);
+    let mut actor_states = Vec::with_capacity(alloc, count)?;
+    for place in 0..count {
+        actor_states.push(free_actor_state(actor_at(plan, place)))?;
     }
     Ok(actor_states)
 }
