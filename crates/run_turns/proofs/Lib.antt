@@ -1,7 +1,6 @@
 mod Steps
 pub mod RunTurns
 pub mod DueTurns
-pub mod ActorPlaces
 pub mod Replicas
 pub mod Holding
 pub mod FeedRuns
