@@ -1,3 +1,4 @@
 pub mod LockedRows
 pub mod Filling
+pub mod LostCalls
 pub mod Raising

@@ -16,5 +16,7 @@ pub mod PlainServer
 pub mod Conditions
 pub mod Alone
 pub mod Entries
+pub mod LostCalls
+pub mod TurnsAsked
 pub mod EarlierAnswers
 pub mod LockedRows

@@ -104,6 +104,10 @@ new_session number is_tool = record { number = number; is_tool = is_tool; in_tra
 abbrev pub connected : ℕ → Bool → State → State
 connected number is_tool state = record state { made = max state.made number; sessions = state.sessions ++ new_session number is_tool ∷ [] }
 
+-- the number of a session is used up that was lost before it asked anything
+abbrev pub passed : State → State
+passed state = record state { made = state.made + 1 }
+
 -- the live session of this number
 abbrev pub session_of : ℕ → List Session → Option Session
 session_of number sessions = find (λ session. session.number == number) sessions

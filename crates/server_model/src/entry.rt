@@ -4,6 +4,7 @@ ghost use Rattle.std.specs.Prelude.{◌≡◌, ◌==◌, ◌≤◌, ◌-◌, len
 
 use crate::answer::Answer;
 use crate::request::Request;
+use crate::turn_asked::TurnAsked;
 use base_script::{Actor, OperatorWord, Side};
 use base_values::Sequence;
 use std::alloc::Global;
@@ -29,7 +30,7 @@ pub struct Entry {
     /// The number of the actor's session; 0 of the operator.
     pub session: u32,
     /// What it asked.
-    pub asked: Asked,
+    pub asked: TurnAsked,
     /// Where its session was lost in this turn: before the call was done, or after.
     pub side: Option<Side>,
     /// What it was answered; `Lost` where its session was lost.
