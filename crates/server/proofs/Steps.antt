@@ -14,7 +14,7 @@ use Rattle.server_model.specs.Listings.{waits_shown}
 use Rattle.server_model.specs.declared.session.Limits.{Limits}
 use Rattle.server_model.specs.declared.session.Waiting.{Waiting}
 use Rattle.server_model.specs.declared.counter.Counter.{Counter}
-use Rattle.server_model.specs.States.{State, connected, is_live, opened, polls_of, session_of, unread, view, with_session, writes_of}
+use Rattle.server_model.specs.States.{State, connected, passed, is_live, opened, polls_of, session_of, unread, view, with_session, writes_of}
 use Rattle.server_model.specs.LockedRows.Databases.{IsWellFormedDatabase}
 use Rattle.proof_journals.specs.Holdings.{face_of}
 use Rattle.proof_journals.proofs.Serves.{granted}
@@ -190,3 +190,13 @@ pub connected_together : {E : Type 0} (result : Result ℕ E) (tables : Database
 connected_together (Ok made) tables written all_sessions new number is_tool together ok err =
     rw ok (record { valid = together.valid; have = have_joined is_tool number written all_sessions.sessions together.have; serves = connected_serves number is_tool (state_of tables all_sessions) together.serves })
 connected_together (Err fault) tables written all_sessions new number is_tool together ok err = rw err together
+
+-- the number of a session that was lost at once is used up
+pub passed_together : (tables : Database) (written : ℕ → List RowEvent) (all_sessions new : State) → GoTogether tables written all_sessions → new ≡ passed all_sessions → GoTogether tables written new
+passed_together tables written all_sessions new together is =
+    let serves = together.serves in
+    rw is (record {
+      valid = together.valid;
+      have = together.have;
+      serves = record { well_formed = serves.well_formed; own = serves.own; apart = serves.apart; alone = serves.alone; waits = serves.waits };
+    })

@@ -78,6 +78,15 @@ impl Serve for Server {
         self.all_sessions.connect(is_tool)
     }
 
+    fn pass(&mut self) -> u32 {
+        self.known.forget();
+        self.all_sessions.pass()
+    }
+
+    fn made(&self) -> u32 {
+        self.all_sessions.made()
+    }
+
     fn call(&mut self, session: u32, request: &Request) -> Result<Answer, AllocError> {
         let served = call(
             &mut self.storage,

@@ -3,7 +3,7 @@
 ghost use Rattle.std.specs.Prelude.{◌≡◌, ◌≢◌, ◌+◌, ◌<◌, ℕ, length, true, Option, Some, None, IfOk, IsOk, OnOk, OnErr};
 ghost use Rattle.base_script.specs.declared.actor.Side.TheVariants.{After};
 ghost use Rattle.table_store.specs.Databases.{database};
-ghost use Rattle.server_model.specs.States.{State, connected, session_of, is_live, is_waiting, is_in_transaction, holds_tables, unread};
+ghost use Rattle.server_model.specs.States.{State, connected, passed, session_of, is_live, is_waiting, is_in_transaction, holds_tables, unread};
 ghost use Rattle.server_model.specs.declared.entry.Asked.TheVariants.{Call, Poll};
 ghost use Rattle.server_model.specs.PlainServer.{calls, polls, serves, state_left, number_drawn, given_at};
 ghost use Rattle.server_model.specs.Conditions.{MayCall, MayPoll, MayLose, is_free, is_freely_polled};
@@ -29,6 +29,18 @@ pub trait Serve: Drop {
         ensures ok { OnOk result (state self.new ≡ connected ((state self.old).made + 1) is_tool (state self.old)) }
         ensures draw { drawn self.new ≡ drawn self.old }
         ensures err { OnErr result (state self.new ≡ state self.old) };
+
+    /// Gives the number of a session that is lost before it asks anything, which is used up by it. It takes no memory, since there
+    /// is nothing to make.
+    fn pass(&mut self) -> u32
+        requires { (state self.old).made < u32.MAX }
+        ensures number { result ≡ (state self.old).made + 1 }
+        ensures passed { state self.new ≡ passed (state self.old) }
+        ensures draw { drawn self.new ≡ drawn self.old };
+
+    /// How many sessions it gave numbers to.
+    fn made(&self) -> u32
+        ensures { result ≡ (state self.now).made };
 
     /// Answers a request of a session. COMMIT, ROLLBACK and UNLOCK TABLES take no memory.
     fn call(&mut self, session: u32, request: &Request) -> Result<Answer, AllocError>

@@ -2,7 +2,7 @@
 
 ghost use Rattle.std.specs.Prelude.{◌≡◌, ◌<◌, ◌≤◌, ◌+◌, ◌++◌, [], ◌∷◌, true, is_some, length, count_by, drop, option_copied, IfOk, OnOk, OnErr};
 ghost use Rattle.std.specs.List.{AllByRecursion, list_any};
-ghost use Rattle.server_model.specs.States.{counter_of, counters_renamed, counters_without, next_of, opened, connected, session_of, with_session, is_live, is_in_transaction, is_of_tool, is_waiting, holds_tables, waiting_of, unread, is_exclusive, names_in};
+ghost use Rattle.server_model.specs.States.{counter_of, counters_renamed, counters_without, next_of, opened, connected, passed, session_of, with_session, is_live, is_in_transaction, is_of_tool, is_waiting, holds_tables, waiting_of, unread, is_exclusive, names_in};
 ghost use Rattle.server_model.specs.Blockers.{blocker};
 ghost use Rattle.server_model.specs.Listings.{events_read, waits_shown};
 ghost use Rattle.server_model.specs.Effects.{is_outside};
@@ -106,6 +106,22 @@ impl Sessions {
         ensures err { OnErr result (self.new ≡ self.old) }
     {
         self.sessions.connect(self.alloc, is_tool)
+    }
+
+    /// Gives the number of a session that is lost before it asks anything.
+    pub fn pass(&mut self) -> u32
+        requires { self.old.made < u32.MAX }
+        ensures number { result ≡ self.old.made + 1 }
+        ensures passed { self.new ≡ passed self.old }
+    {
+        self.sessions.pass()
+    }
+
+    /// The greatest number that a session was given.
+    pub fn made(&self) -> u32
+        ensures { result ≡ self.now.made }
+    {
+        self.sessions.made()
     }
 
     /// The session is gone, with all that it holds, and with its request that waits.

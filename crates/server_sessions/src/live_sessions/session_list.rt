@@ -183,6 +183,23 @@ impl SessionList {
         Ok(number)
     }
 
+    /// The greatest number that a session was given.
+    pub fn made(&self) -> u32
+        ensures { result ≡ self.now.made }
+    {
+        self.made
+    }
+
+    /// The number of a session that is lost before it asks anything.
+    pub fn pass(&mut self) -> u32
+        requires { self.old.made < u32.MAX }
+        ensures number { result ≡ self.old.made + 1 }
+        ensures passed { self.new ≡ record self.old { made = self.old.made + 1 } }
+    {
+        self.made += 1;
+        self.made
+    }
+
     /// The session is gone, with all that it holds.
     pub fn disconnect(&mut self, number: u32)
         ensures { self.new ≡ record self.old { sessions = filter (λ session. not (session.number == number)) self.old.sessions } }
