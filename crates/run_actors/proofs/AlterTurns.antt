@@ -4,7 +4,9 @@ use Rattle.std.specs.List.{list_any}
 use Rattle.base_script.specs.declared.actor.Actor.{Actor}
 use Rattle.base_script.specs.declared.actor.Actor.TheVariants.{Client}
 use Rattle.base_script.specs.declared.script.ScriptLine.{ScriptLine}
+use Rattle.server_model.specs.declared.lost_calls.LostCall.{LostCall}
 use Rattle.server_model.specs.declared.request.Request.{Request}
+use Rattle.server_model.specs.declared.request.Request.TheVariants as requests
 use Rattle.server_model.specs.declared.answer.Answer.{Answer}
 use Rattle.server_model.specs.declared.answer.Answer.TheVariants as answers
 use Rattle.server_model.specs.declared.entry.Entry.{Entry}
@@ -12,6 +14,7 @@ use Rattle.server_model.specs.declared.transaction.Mark.{Mark}
 use Rattle.server_model.specs.declared.transaction.Reply.{Reply}
 use Rattle.server_model.specs.declared.transaction.TxnEnd.{TxnEnd}
 use Rattle.server_model.specs.Entries.{is_client}
+use Rattle.server_model.specs.LostCalls.{lost_of}
 use Rattle.plan_data.specs.PlanData.{PlanData}
 use Rattle.tool_program.specs.JournalWords.Clients.{Reached, Became, Nothing, Waits, Marked, Broken, became, client_at, is_inside, ends_with, with_draw}
 use Rattle.tool_program.specs.JournalWords.Histories.{HistoryItem, Alter, about, adds, alters, answer_in, breaks, client_ends, ends_so, entry_adds, is_alter, line_ends, renames_away}
@@ -68,3 +71,8 @@ adds_alter plan before entry tool is = adds_where plan before entry true tool is
 
 pub adds_nothing : (plan : PlanData) (before : List Entry) (entry : Entry) → is_client entry.actor ≡ false → false ≡ list_any is_alter (entry_adds plan before entry) → [] ≡ entry_adds plan before entry
 adds_nothing plan before entry tool is = adds_where plan before entry false tool is
+
+-- a RENAME is kept whole
+pub lost_renames : (name : List ℕ) (request : Request) (lost : LostCall) → lost_of request ≡ Some lost → false ≡ renames_away name (Some request)
+lost_renames name (requests.Rename pairs) lost is = absurd (cc)
+lost_renames name request lost is = refl

@@ -9,7 +9,7 @@ use crate::actors::same_actor;
 use crate::alters::renames_away;
 use base_script::Actor;
 use base_values::Name;
-use server_model::{Answer, Asked, Entry};
+use server_model::{Answer, Asked, AskedView, Entry};
 
 /// What is kept of an actor.
 #[derive(Clone, Copy)]
@@ -28,8 +28,8 @@ pub struct ActorState {
 fn session_left(entry: &Entry) -> Option<u32>
     ensures { result ≡ session_left entry.now.asked entry.now.answer entry.now.session }
 {
-    match (&entry.asked, &entry.answer) {
-        (Asked::Command(_), _) | (_, Answer::Lost) => None,
+    match (entry.asked.view(), &entry.answer) {
+        (AskedView::All(Asked::Command(_)), _) | (_, Answer::Lost) => None,
         _ => Some(entry.session),
     }
 }
@@ -38,9 +38,11 @@ fn session_left(entry: &Entry) -> Option<u32>
 pub(crate) fn renames_after(table: &Name, entry: &Entry, old: bool) -> bool
     ensures { result ≡ renames_after table.now entry.now.asked entry.now.answer old }
 {
-    match (&entry.asked, &entry.answer) {
-        (Asked::Call(request), Answer::Waits { .. }) => renames_away(table, request),
-        (Asked::Poll, Answer::Waits { .. }) => old,
+    match (entry.asked.view(), &entry.answer) {
+        (AskedView::All(Asked::Call(request)), Answer::Waits { .. }) => {
+            renames_away(table, request)
+        }
+        (AskedView::All(Asked::Poll), Answer::Waits { .. }) => old,
         _ => false,
     }
 }
@@ -52,7 +54,7 @@ fn turn(actor_state: &mut ActorState, table: &Name, entry: &Entry)
 {
     actor_state.session = session_left(entry);
     actor_state.renames = renames_after(table, entry, actor_state.renames);
-    if !matches!(entry.asked, Asked::Cut) {
+    if !entry.asked.is_cut() {
         actor_state.turns += 1;
     }
 }

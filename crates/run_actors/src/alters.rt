@@ -10,7 +10,7 @@ ghost use Rattle.tool_program.specs.JournalWords.Histories.{takes_away, renames_
 use crate::actors::is_client;
 use base_script::Side;
 use base_values::Name;
-use server_model::{Answer, Asked, Entry, Request};
+use server_model::{Answer, Asked, AskedView, Entry, Request, TurnAsked};
 use table_store::Pair;
 
 fn takes_away(name: &Name, pairs: &[Pair]) -> bool
@@ -29,14 +29,16 @@ pub(crate) fn renames_away(name: &Name, request: &Request) -> bool
     }
 }
 
-/// Whether the request that the turn is about takes the name away; where one waited before it, that did or didn't.
-fn about_renames(name: &Name, asked: &Asked, renames: bool) -> bool
+/// Whether the request that the turn is about takes the name away; where one waited before it, that did or didn't. A RENAME is kept
+/// whole.
+#[tactic(auto, using(crate::proofs::AlterTurns::lost_renames))]
+fn about_renames(name: &Name, asked: &TurnAsked, renames: bool) -> bool
     ensures { (waiting : Option Request) → renames ≡ renames_away name.now waiting → result ≡ renames_away name.now (asked_about asked.now waiting) }
 {
-    match asked {
-        Asked::Call(request) => renames_away(name, request),
-        Asked::Command(_) => false,
-        Asked::Poll | Asked::Cut => renames,
+    match asked.view() {
+        AskedView::All(Asked::Call(request)) => renames_away(name, request),
+        AskedView::All(Asked::Command(_)) | AskedView::Lost(..) => false,
+        AskedView::All(Asked::Poll | Asked::Cut) => renames,
     }
 }
 
@@ -44,8 +46,8 @@ fn about_renames(name: &Name, asked: &Asked, renames: bool) -> bool
 fn answer_in(entry: &Entry) -> Option<&Answer>
     ensures { option_map (λ answer. answer.now) result ≡ answer_in entry.now.asked entry.now.side entry.now.answer entry.now.missed }
 {
-    match (&entry.asked, entry.side) {
-        (Asked::Cut, _) | (_, Some(Side::Before)) => None,
+    match (entry.asked.view(), entry.side) {
+        (AskedView::All(Asked::Cut), _) | (_, Some(Side::Before)) => None,
         (_, None) => Some(&entry.answer),
         (_, Some(Side::After)) => entry.missed.as_ref(),
     }

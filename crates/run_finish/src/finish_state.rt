@@ -17,7 +17,7 @@ use base_values::Names;
 use plan_data::Plan;
 use run_turns::due_turns::migration_run::{Counts, Taken, Turn, take_turn};
 use server_api::Serve;
-use server_model::Entry;
+use server_model::{Entry, TurnAsked};
 use std::alloc::{AllocError, Global};
 use std::mem;
 use tool_finish::{FinishView, Stage};
@@ -147,7 +147,7 @@ impl FinishState<'_> {
             Some((actor, asked)) => Ok(Turn {
                 actor,
                 side: None,
-                asked,
+                asked: TurnAsked::all(asked),
             }),
             None => unreachable!(),
         }

@@ -6,7 +6,7 @@ ghost use Rattle.run_finish.specs.Sessions.{live_in, first_actor, session_of, se
 
 use base_script::Actor;
 use run_actors::{ActorState, same_actor};
-use server_model::{Answer, Asked, Entry};
+use server_model::{Answer, Asked, AskedView, Entry};
 use std::alloc::{AllocError, Global};
 
 /// An actor, and its live session where it has one.
@@ -62,8 +62,8 @@ pub fn session_of(sessions: &[LiveSession], actor: Actor) -> Option<u32>
 fn session_left(entry: &Entry) -> Option<u32>
     ensures { result ≡ session_left entry.now.asked entry.now.answer entry.now.session }
 {
-    match (&entry.asked, &entry.answer) {
-        (Asked::Command(_), _) | (_, Answer::Lost) => None,
+    match (entry.asked.view(), &entry.answer) {
+        (AskedView::All(Asked::Command(_)), _) | (_, Answer::Lost) => None,
         _ => Some(entry.session),
     }
 }

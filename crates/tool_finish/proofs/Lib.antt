@@ -1,3 +1,4 @@
+pub mod LostNotes
 pub mod Machines
 pub mod Holding
 pub mod Walking

@@ -5,16 +5,19 @@ ghost use Rattle.std.specs.List.{list_any};
 ghost use Rattle.tool_finish.specs.Checkpoints.{asks_checkpoint, was_done, writes_checkpoint};
 
 use base_script::{Actor, Statement};
-use server_model::{Answer, Asked, Entry, Request};
+use server_model::{Answer, Asked, AskedView, Entry, LostCall, Request, TurnAsked};
 use tool_program::note_writer::is_checkpoint;
 
-fn asks_checkpoint(actor: Actor, asked: &Asked) -> bool
+#[tactic(auto, using(crate::proofs::LostNotes::lost_note, crate::proofs::LostNotes::lost_other))]
+fn asks_checkpoint(actor: Actor, asked: &TurnAsked) -> bool
     ensures { result ≡ asks_checkpoint actor asked.now }
 {
-    match (actor, asked) {
-        (Actor::Insp, Asked::Call(Request::Do(Statement::Replace { values, .. }))) => {
-            is_checkpoint(values.as_slice())
-        }
+    match (actor, asked.view()) {
+        (
+            Actor::Insp,
+            AskedView::All(Asked::Call(Request::Do(Statement::Replace { values, .. }))),
+        ) => is_checkpoint(values.as_slice()),
+        (Actor::Insp, AskedView::Lost(LostCall::Replace(is_checkpoint), _)) => is_checkpoint,
         _ => false,
     }
 }

@@ -8,7 +8,7 @@ ghost use Rattle.top_report.specs.Runs.{open_after, printed_at, printed_before, 
 use crate::client_lines::{push_count, push_number_line};
 use base_script::Actor;
 use base_values::Text;
-use server_model::{Asked, Entry};
+use server_model::Entry;
 use std::alloc::AllocError;
 
 /// Turns of one actor, one after the other, to which one more may come.
@@ -65,12 +65,6 @@ fn is_same(actor: Actor, other: Actor) -> bool
     }
 }
 
-fn is_cut(asked: &Asked) -> bool
-    ensures { result ≡ is_cut asked.now }
-{
-    matches!(asked, Asked::Cut)
-}
-
 /// Adds the run before a turn, where the turn isn't of it.
 fn push_before(into: &mut Text, before: Option<OpenRun>, actor: Actor) -> Result<(), AllocError>
     ensures { OnOk result (into.new ≡ into.old ++ printed_before before actor) }
@@ -106,7 +100,7 @@ fn push_turn(
     ensures text { OnOk result (into.new ≡ into.old ++ printed_at before entry.now) }
     ensures run { IfOk result (λ run. run ≡ open_after before entry.now) }
 {
-    if is_cut(&entry.asked) {
+    if entry.asked.is_cut() {
         return Ok(before);
     }
     push_before(into, before, entry.actor)?;

@@ -5,9 +5,15 @@ use Rattle.std.specs.Fmt.{decimal}
 use Rattle.std.specs.List.{flat_map}
 use Rattle.server_model.specs.declared.answer.Answer.{Answer}
 use Rattle.server_model.specs.declared.answer.Answer.TheVariants as answers
+use Rattle.server_model.specs.declared.entry.Asked.TheVariants.{Call}
 use Rattle.server_model.specs.declared.entry.Entry.{Entry}
+use Rattle.server_model.specs.declared.lost_calls.LostCall.{LostCall}
+use Rattle.server_model.specs.declared.request.Request.{Request}
+use Rattle.server_model.specs.declared.request.Request.TheVariants as requests
+use Rattle.server_model.specs.LostCalls.{lost_of}
 use Rattle.table_store.specs.Databases.{Database}
 use Rattle.run_audit.specs.declared.line.LineAnswer.TheVariants as line_answers
+use Rattle.run_audit.specs.declared.line.LineAsked.TheVariants as asks
 use Rattle.run_audit.specs.Lines.{asked_of, drawn_shown, heard_answer, line_of, missed_answer, printed_table}
 use Rattle.top_report.specs.Tables.{rows_text, tables_text}
 use Rattle.top_report.specs.Turns.{actor_word}
@@ -90,3 +96,8 @@ turn_printed turn entry into one two three four five six front request blank ans
     let to_fourth : four ≡ into ++ fourth = answer ∙ ap (λ (text : List ℕ). text ++ said) to_third ∙ append_assoc into third said in
     let to_fifth : five ≡ into ++ fifth = draw ∙ ap (λ (text : List ℕ). text ++ drawn) to_fourth ∙ append_assoc into fourth drawn in
     end ∙ ap (λ (text : List ℕ). text ++ codes "\n") to_fifth ∙ append_assoc into fifth (codes "\n")
+
+-- a RENAME is kept whole
+pub lost_asked : (request : Request) (lost : LostCall) → lost_of request ≡ Some lost → asked_of (Call request) ≡ asks.Call
+lost_asked (requests.Rename pairs) lost is = absurd (cc)
+lost_asked request lost is = refl

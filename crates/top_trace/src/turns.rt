@@ -9,22 +9,22 @@ ghost use Rattle.top_trace.specs.Texts.{asked_text, read_rows_text, side_text, t
 use crate::answers::{push_answer, push_drawn, push_read_rows};
 use base_script::{Actor, Side};
 use base_values::Text;
-use server_model::{Asked, Entry, Request};
+use server_model::{Asked, AskedView, Entry, Request, TurnAsked};
 use std::alloc::AllocError;
 use top_report::client_lines::push_count;
 use top_report::push_actor;
 
-/// Adds what was asked, in a word.
-#[tactic(auto, unfolding(crate::specs::Texts::asked_text))]
-fn push_asked(into: &mut Text, asked: &Asked) -> Result<(), AllocError>
+/// Adds what was asked, in a word. A RENAME is kept whole.
+#[tactic(auto, using(crate::proofs::Lines::lost_asked), unfolding(crate::specs::Texts::asked_text))]
+fn push_asked(into: &mut Text, asked: &TurnAsked) -> Result<(), AllocError>
     ensures { OnOk result (into.new ≡ into.old ++ asked_text (asked_of asked.now)) }
 {
-    match asked {
-        Asked::Call(Request::Rename(_)) => into.push_str("rename"),
-        Asked::Call(_) => into.push_str("call"),
-        Asked::Poll => into.push_str("poll"),
-        Asked::Command(_) => into.push_str("word"),
-        Asked::Cut => into.push_str("cut"),
+    match asked.view() {
+        AskedView::All(Asked::Call(Request::Rename(_))) => into.push_str("rename"),
+        AskedView::All(Asked::Call(_)) | AskedView::Lost(..) => into.push_str("call"),
+        AskedView::All(Asked::Poll) => into.push_str("poll"),
+        AskedView::All(Asked::Command(_)) => into.push_str("word"),
+        AskedView::All(Asked::Cut) => into.push_str("cut"),
     }
 }
 

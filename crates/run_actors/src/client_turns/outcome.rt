@@ -6,7 +6,7 @@ ghost use Rattle.tool_program.specs.JournalWords.Clients.{became_of, was_done, l
 ghost use Rattle.run_actors.specs.ClientTurns.ActorStates.{heard_reply, line_outcome_as};
 
 use base_script::Side;
-use server_model::{Answer, Asked, Entry, Mark};
+use server_model::{Answer, Asked, AskedView, Entry, Mark};
 
 /// What became of a client's line in a turn.
 #[derive(Clone, Copy)]
@@ -59,9 +59,9 @@ fn lost_side(side: Side, missed: &Option<Answer>) -> Side
 pub fn line_outcome_of(waits: bool, entry: &Entry) -> LineOutcome
     ensures { result ≡ line_outcome_as (became_in waits entry.now.asked entry.now.side entry.now.answer entry.now.missed) }
 {
-    match (&entry.asked, entry.side) {
-        (Asked::Cut, _) if waits => LineOutcome::Marked(Mark::Lost(Side::Before)),
-        (Asked::Cut, _) => LineOutcome::Broken,
+    match (entry.asked.view(), entry.side) {
+        (AskedView::All(Asked::Cut), _) if waits => LineOutcome::Marked(Mark::Lost(Side::Before)),
+        (AskedView::All(Asked::Cut), _) => LineOutcome::Broken,
         (_, None) => line_outcome_of_answer(&entry.answer),
         (_, Some(side)) => LineOutcome::Marked(Mark::Lost(lost_side(side, &entry.missed))),
     }
@@ -71,8 +71,8 @@ pub fn line_outcome_of(waits: bool, entry: &Entry) -> LineOutcome
 pub fn heard_answer(entry: &Entry) -> Option<&Answer>
     ensures { option_and_then (λ answer. reply_of answer.now) result ≡ heard_reply entry.now.asked entry.now.side entry.now.answer }
 {
-    match (&entry.asked, entry.side) {
-        (Asked::Cut, _) | (_, Some(_)) => None,
+    match (entry.asked.view(), entry.side) {
+        (AskedView::All(Asked::Cut), _) | (_, Some(_)) => None,
         (_, None) => Some(&entry.answer),
     }
 }

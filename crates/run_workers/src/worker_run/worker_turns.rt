@@ -6,7 +6,7 @@ ghost use Rattle.run_workers.specs.WorkerRun.Workers.{places_after};
 
 use crate::worker_run::members::{Candidate, Member};
 use run_turns::WorkerTurn;
-use server_model::{Asked, Entry};
+use server_model::Entry;
 
 /// The place from which the worker's rotation goes on; a worker beyond those that there are begins anew.
 pub(crate) fn place_from(places: &[usize], worker: u32) -> usize
@@ -19,7 +19,7 @@ pub(crate) fn place_from(places: &[usize], worker: u32) -> usize
 fn is_cut(entry: &Entry) -> bool
     ensures { result ≡ is_cut entry.now.asked }
 {
-    matches!(entry.asked, Asked::Cut)
+    entry.asked.is_cut()
 }
 
 /// Notes the worker's turn; after an own actor's, but for a loss between calls, its rotation goes on from the next place.

@@ -5,7 +5,7 @@ ghost use Rattle.tool_program.specs.JournalWords.Clients.{after_transaction, bec
 ghost use Rattle.test_histories.specs.JournalPasts.Lines.{after_line, became_view};
 
 use base_script::{ScriptLine, ScriptWord, Side};
-use server_model::{Answer, Asked, Entry, Mark};
+use server_model::{Answer, Asked, AskedView, Entry, Mark};
 
 /// What became of it.
 #[derive(Drop)]
@@ -66,8 +66,8 @@ fn cut_off<'a>(waits: bool) -> Became<'a>
 pub(crate) fn became_in(waits: bool, entry: &Entry) -> Became<'_>
     ensures { became_view result ≡ became_in waits entry.now.asked entry.now.side entry.now.answer entry.now.missed }
 {
-    match (&entry.asked, entry.side) {
-        (Asked::Cut, _) => cut_off(waits),
+    match (entry.asked.view(), entry.side) {
+        (AskedView::All(Asked::Cut), _) => cut_off(waits),
         (_, None) => became_of(&entry.answer),
         (_, side) => Became::Marked(Mark::Lost(lost_side(side, &entry.missed)), None),
     }

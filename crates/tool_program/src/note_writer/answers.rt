@@ -1,12 +1,14 @@
 //! What the notes make of a turn. Nothing here takes memory.
 
-ghost use Rattle.std.specs.Prelude.{◌≡◌, ◌<◌};
+ghost use Rattle.std.specs.Prelude.{◌≡◌, ◌<◌, List};
+ghost use Rattle.base_values.specs.declared.value.Value as values;
 ghost use Rattle.tool_program.specs.NoteWriter.Notes.{new_notes, is_checkpoint, beaten, checked, row_written, noted};
+ghost use Rattle.tool_program.specs.NoteWriter.Notes as rows;
 
 use crate::note_writer::notes::{NoteStep, Notes};
 use base_script::{Actor, Statement};
 use base_values::Value;
-use server_model::{Answer, Asked, Entry, Request};
+use server_model::{Answer, Asked, AskedView, Entry, LostCall, Request};
 
 /// Whether the row is a checkpoint's, whose id is 0.
 pub fn is_checkpoint(row: &[Value]) -> bool
@@ -63,11 +65,12 @@ impl Notes {
         }
     }
 
-    fn row_written(&mut self, row: &[Value], answer: &Answer)
+    /// Takes the answer to a row of a note, the checkpoint's or a heartbeat's.
+    fn row_written(&mut self, is_checkpoint: bool, answer: &Answer)
         requires { self.old.begun < u32.MAX }
-        ensures { self.new ≡ row_written row.now self.old answer.now }
+        ensures { (row : List values.Value) → is_checkpoint ≡ rows.is_checkpoint row → self.new ≡ row_written row self.old answer.now }
     {
-        if is_checkpoint(row) {
+        if is_checkpoint {
             self.checked(answer);
         } else {
             self.beaten(answer);
@@ -75,18 +78,22 @@ impl Notes {
     }
 
     /// Takes one turn more. What the inspector writes by REPLACE is a note.
-    #[tactic(auto, unfolding(crate::specs::NoteWriter::Notes::noted))]
+    #[tactic(auto, using(crate::proofs::NoteWriter::LostNotes::unwritten), unfolding(crate::specs::NoteWriter::Notes::noted))]
     pub fn take(&mut self, entry: &Entry)
         requires begun { self.old.begun < u32.MAX }
         requires behind { self.old.behind < u64.MAX }
         ensures { self.new ≡ noted self.old entry.now }
     {
         self.behind += 1;
-        if let (Actor::Insp, Asked::Call(Request::Do(Statement::Replace { values, .. }))) = (
-            entry.actor,
-            &entry.asked,
-        ) {
-            self.row_written(values.as_slice(), &entry.answer);
+        match (entry.actor, entry.asked.view()) {
+            (
+                Actor::Insp,
+                AskedView::All(Asked::Call(Request::Do(Statement::Replace { values, .. }))),
+            ) => self.row_written(is_checkpoint(values.as_slice()), &entry.answer),
+            (Actor::Insp, AskedView::Lost(LostCall::Replace(is_checkpoint), _)) => {
+                self.row_written(is_checkpoint, &entry.answer);
+            }
+            _ => {}
         }
     }
 }

@@ -12,7 +12,7 @@ use crate::tool_state::reason::Reason;
 use crate::tool_state::tool::Tool;
 use base_script::{Actor, OperatorWord};
 use plan_data::Plan;
-use server_model::{Answer, Asked, Entry, KeyRange, Task};
+use server_model::{Answer, Asked, AskedView, Entry, KeyRange, Task};
 use tool_program::cutover_core::{Role, is_bad};
 use tool_program::tool_setup::{Setup, SetupTook};
 
@@ -95,14 +95,14 @@ impl Tool {
         ensures tries { TriesGrow self.old self.new }
     {
         self.turns += 1;
-        match &entry.asked {
-            Asked::Command(word) => self.command_took(plan, *word),
-            Asked::Cut => {
+        match entry.asked.view() {
+            AskedView::All(Asked::Command(word)) => self.command_took(plan, *word),
+            AskedView::All(Asked::Cut) => {
                 if had_work {
                     self.actor_took(plan, entry.actor, &Answer::Lost, None);
                 }
             }
-            Asked::Call(_) | Asked::Poll => {
+            AskedView::All(Asked::Call(_) | Asked::Poll) | AskedView::Lost(..) => {
                 self.actor_took(plan, entry.actor, &entry.answer, range);
                 if matches!(entry.actor, Actor::Apply) {
                     self.drain(plan);
