@@ -3,6 +3,7 @@
 ghost use Rattle.std.specs.Prelude.{◌≡◌, Some, List};
 ghost use Rattle.plan_data.specs.PlanData.{PlanData};
 ghost use Rattle.server_model.specs.declared.entry.Entry.{Entry};
+ghost use Rattle.server_model.specs.LostCalls.{lost_in};
 ghost use Rattle.tool_program.specs.Tools as program;
 ghost use Rattle.tool_state.specs.Feeds.{read_in, starts};
 ghost use Rattle.tool_state.specs.ToolState.Meanings.{work_of};
@@ -10,6 +11,7 @@ ghost use Rattle.run_state.specs.NextAsked.{asked_in};
 
 use base_script::{Actor, OperatorWord};
 use run_actors::client_turns::ClientCall;
+use server_model::{Entry, LostCall};
 use tool_state::tool_state::Work;
 use tool_state::{LogRead, NextCall};
 
@@ -25,6 +27,17 @@ pub enum NextAsked<'a> {
 }
 
 impl NextAsked<'_> {
+    /// What a journal keeps of what is asked, where that is lost before it is done; none where it keeps all. It takes no memory.
+    pub fn lost(self, journal: &[Entry], work: &Work) -> Option<LostCall>
+        ensures { (plan : PlanData) → result ≡ lost_in (asked_in plan journal.now (work_of work.now) self.entry) }
+    {
+        match self {
+            NextAsked::Tool(call) => call.lost(journal, work),
+            NextAsked::Command(_) => None,
+            NextAsked::Client(call) => call.lost(),
+        }
+    }
+
     /// The read of the log that is asked; none where something else is.
     #[tactic(auto, using(crate::proofs::Givens::client_reads))]
     pub fn read(self, work: &Work) -> Option<LogRead>

@@ -2,6 +2,7 @@
 
 ghost use Rattle.std.specs.Prelude.{◌≡◌, Some, false, option_map, slice_get, IfOk, OnErr};
 ghost use Rattle.base_script.specs.declared.actor.Actor.TheVariants.{Apply};
+ghost use Rattle.server_model.specs.LostCalls.{lost_in};
 ghost use Rattle.tool_program.specs.FreeCalls.{is_freely_asked};
 ghost use Rattle.tool_program.specs.JournalWords.Clients.{clients_over};
 ghost use Rattle.tool_program.specs.JournalWords.KeptPlans.{words_of};
@@ -21,7 +22,7 @@ use crate::next_asked::NextAsked;
 use crate::run_state::RunState;
 use base_script::Actor;
 use server_api::Serve;
-use server_model::Asked;
+use server_model::{Asked, LostCall};
 use std::alloc::{AllocError, Global};
 use tool_state::{LogRead, NextCall, ToolView, VerdictView, is_over, verdict};
 
@@ -83,6 +84,13 @@ impl RunState<'_> {
             NextAsked::Command(word) => Ok(Asked::Command(word)),
             NextAsked::Client(call) => call.asked(),
         }
+    }
+
+    /// What a journal keeps of what is asked, where that is lost before it is done; none where it keeps all. It takes no memory.
+    pub fn lost(&self, next: NextAsked<'_>) -> Option<LostCall>
+        ensures { result ≡ lost_in (asked_of self.now next.entry) }
+    {
+        next.lost(self.journal.as_slice(), &self.tool.work)
     }
 
     /// Whether the actor is ready: something is given to it.

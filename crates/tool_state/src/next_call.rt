@@ -4,6 +4,7 @@ ghost use Rattle.std.specs.Prelude.{◌≡◌, Some, false, List, IfOk, OnErr};
 ghost use Rattle.base_script.specs.declared.actor.Actor.TheVariants.{Copy, Lock};
 ghost use Rattle.plan_data.specs.PlanData.{PlanData};
 ghost use Rattle.server_model.specs.declared.entry.Entry.{Entry};
+ghost use Rattle.server_model.specs.LostCalls.{lost_in};
 ghost use Rattle.tool_program.specs.FreeCalls.{is_freely_asked};
 ghost use Rattle.tool_program.specs.Tools as program;
 ghost use Rattle.tool_state.specs.Feeds.{read_in, starts};
@@ -11,11 +12,11 @@ ghost use Rattle.tool_state.specs.NextCalls.{asked_in};
 ghost use Rattle.tool_state.specs.ToolState.Meanings.{work_of};
 
 use crate::log_read::LogRead;
-use crate::note_calls::note;
+use crate::note_calls::{note, note_lost};
 use crate::tool_state::Work;
 use base_script::Actor;
 use plan_data::Plan;
-use server_model::{Asked, Entry, Request};
+use server_model::{Asked, Entry, LostCall, Request};
 use std::alloc::{AllocError, Global};
 use tool_program::chunk_copier::CopyCall;
 use tool_program::cutover_core::CutOverCall;
@@ -62,6 +63,21 @@ impl NextCall<'_> {
             NextCall::Apply => Asked::Call(work.applier.next(alloc, journal)?),
             NextCall::CutOver(call) => Asked::Call(work.cutover.request(alloc, call)?),
         })
+    }
+
+    /// What a journal keeps of what is asked, where that is lost before it is done; none where it keeps all. It takes no memory.
+    #[tactic(auto, using(crate::proofs::LostCalls::lost_setup))]
+    pub fn lost(self, journal: &[Entry], work: &Work) -> Option<LostCall>
+        ensures { (plan : PlanData) → result ≡ lost_in (asked_in plan journal.now (work_of work.now) self.entry) }
+    {
+        match self {
+            NextCall::Poll | NextCall::Rollback => None,
+            NextCall::Setup(_) => Some(LostCall::Other),
+            NextCall::Note(row) => Some(note_lost(journal, work, row)),
+            NextCall::Copy(call) => call.lost(),
+            NextCall::Apply => work.applier.lost(journal),
+            NextCall::CutOver(call) => call.lost(),
+        }
     }
 
     /// The read of the log that is asked; none where something else is.

@@ -1,6 +1,8 @@
 //! The notes that the inspector writes while no attempt stands.
 
-ghost use Rattle.std.specs.Prelude.{◌≡◌, is_some, option_map, IfOk};
+ghost use Rattle.std.specs.Prelude.{◌≡◌, is_some, option_map, Some, IfOk};
+ghost use Rattle.plan_data.specs.PlanData.{PlanData};
+ghost use Rattle.server_model.specs.LostCalls.{lost_of};
 ghost use Rattle.tool_program.specs.NoteWriter.Notes.{notes_of, checkpoint_next};
 ghost use Rattle.tool_program.specs.NoteWriter.NoteRows.{row_of, asked_in};
 ghost use Rattle.tool_program.specs.Programs.{checkpoint_in, note_call};
@@ -15,7 +17,7 @@ use crate::tool_view::ToolView;
 use base_values::{Row, Sequence, Shared};
 use plan_data::Plan;
 use server_api::Serve;
-use server_model::{Entry, Request};
+use server_model::{Entry, LostCall, Request};
 use std::alloc::{AllocError, Global};
 use tool_changelog::{checkpoint_row, heartbeat_row};
 use tool_program::note_writer::{NoteRow, writes};
@@ -57,6 +59,20 @@ pub(crate) fn note(
     ensures { IfOk result (λ request. request ≡ asked_in plan.now (checkpoint_in journal.now (work_of work.now)) row) }
 {
     writes(alloc, plan.table(), note_values(alloc, journal, work, row)?)
+}
+
+/// What a journal keeps of a row of a note that is lost before it is written: a checkpoint's row begins with 0.
+#[tactic(auto, using(crate::proofs::LostCalls::lost_heartbeat, crate::proofs::LostCalls::lost_checkpoint))]
+pub(crate) fn note_lost(journal: &[Entry], work: &Work, row: NoteRow) -> LostCall
+    ensures { (plan : PlanData) → Some result ≡ lost_of (asked_in plan (checkpoint_in journal.now (work_of work.now)) row) }
+{
+    match row {
+        NoteRow::Heartbeat(_) => LostCall::Replace(false),
+        NoteRow::Checkpoint => LostCall::Replace(is_short(
+            work.applier.position,
+            work.copier.reach(journal),
+        )),
+    }
 }
 
 impl<'a, V: Serve> ToolView<'a, V> {

@@ -3,6 +3,7 @@
 ghost use Rattle.std.specs.Prelude.{◌≡◌, Some, false, List, drop, option_map, IfOk, OnErr};
 ghost use Rattle.base_script.specs.declared.script.ScriptLine.{ScriptLine};
 ghost use Rattle.server_model.specs.Conditions.{is_free};
+ghost use Rattle.server_model.specs.LostCalls.{lost_in, lost_of};
 ghost use Rattle.tool_program.specs.FreeCalls.{is_freely_asked};
 ghost use Rattle.tool_program.specs.JournalWords.Clients.{Reached, new_client, word_asks, client_over};
 ghost use Rattle.run_actors.specs.ClientTurns.ActorStates.{IsReached, asks_so};
@@ -11,7 +12,7 @@ ghost use Rattle.run_actors.specs.ClientTurns.ClientCalls.{asked_in};
 use crate::client_turns::actor_state::ClientState;
 use base_script::{Script, ScriptLine, ScriptWord};
 use base_values::Duplicate;
-use server_model::{Asked, Request};
+use server_model::{Asked, LostCall, Request, lost_statement};
 use std::alloc::AllocError;
 
 /// What a line asks.
@@ -25,6 +26,17 @@ fn word_asks(word: &ScriptWord) -> Result<Request, AllocError>
         ScriptWord::Rollback => Request::Rollback,
         ScriptWord::Do(statement) => Request::Do(statement.copy()?),
     })
+}
+
+/// What a journal keeps of what a line asks, where that is lost before it is done; none where it keeps all.
+fn word_lost(word: &ScriptWord) -> Option<LostCall>
+    ensures { result ≡ lost_of (word_asks word.now) }
+{
+    match word {
+        ScriptWord::Begin => Some(LostCall::Other),
+        ScriptWord::Commit | ScriptWord::Rollback => None,
+        ScriptWord::Do(statement) => Some(lost_statement(statement)),
+    }
 }
 
 /// What a client asks next.
@@ -45,6 +57,16 @@ impl ClientCall<'_> {
         match self {
             ClientCall::Poll => Ok(Asked::Poll),
             ClientCall::Line(word) => Ok(Asked::Call(word_asks(word)?)),
+        }
+    }
+
+    /// What a journal keeps of it, where it is lost before it is done; none where it keeps all.
+    pub fn lost(self) -> Option<LostCall>
+        ensures { result ≡ lost_in (asked_in self.entry) }
+    {
+        match self {
+            ClientCall::Poll => None,
+            ClientCall::Line(word) => word_lost(word),
         }
     }
 }

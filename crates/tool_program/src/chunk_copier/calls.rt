@@ -1,7 +1,10 @@
 //! What the copier asks next.
 
-ghost use Rattle.std.specs.Prelude.{◌≡◌, option_map, false, IfOk, OnErr};
+ghost use Rattle.std.specs.Prelude.{◌≡◌, option_map, false, List, IfOk, OnErr};
 ghost use Rattle.server_model.specs.Conditions.{is_free};
+ghost use Rattle.server_model.specs.LostCalls.{lost_of};
+ghost use Rattle.server_model.specs.declared.entry.Entry as entries;
+ghost use Rattle.tool_program.specs.declared.chunk_copier.copier.Copier as copiers;
 ghost use Rattle.tool_program.specs.ChunkCopier.CopyCalls.{asked_in};
 ghost use Rattle.tool_program.specs.ChunkCopier.Copiers.{low_end, key_at, call_at, next, starts, unfit_key};
 
@@ -9,7 +12,7 @@ use crate::chunk_copier::copier::{Copier, CopyRange, CopyStep};
 use crate::chunk_copier::reader::{end_reported, keys_reported};
 use base_values::tool_names::ghost_name;
 use base_values::{Bound, Duplicate, Key, Span, Value};
-use server_model::{Entry, Request};
+use server_model::{Entry, LostCall, Request};
 use std::alloc::{AllocError, Global};
 
 /// A call of the copier, with what it needs of the range and of the journal.
@@ -30,6 +33,18 @@ pub enum CopyCall<'a> {
     Row(&'a Key),
     /// It commits the chunk.
     Commit,
+}
+
+impl CopyCall<'_> {
+    /// What a journal keeps of it, where it is lost before it is done; none where it keeps all.
+    pub fn lost(self) -> Option<LostCall>
+        ensures { (journal : List entries.Entry) (copier : copiers.Copier) → result ≡ lost_of (asked_in journal copier self.entry) }
+    {
+        match self {
+            CopyCall::Commit => None,
+            CopyCall::End(_) | CopyCall::Span { .. } | CopyCall::Row(_) => Some(LostCall::Other),
+        }
+    }
 }
 
 impl Copier {

@@ -3,6 +3,7 @@
 ghost use Rattle.std.specs.Prelude.{◌≡◌, option_map, ◌∷◌, [], Some, false, IfOk, OnErr};
 ghost use Rattle.base_values.specs.ToolNames.{old_name};
 ghost use Rattle.server_model.specs.Conditions as requests;
+ghost use Rattle.server_model.specs.LostCalls.{lost_of};
 ghost use Rattle.server_model.specs.declared.request.Request.TheVariants.{LockTables};
 ghost use Rattle.tool_program.specs.declared.cutover_core.cutover.CutOver.{CutOver};
 ghost use Rattle.tool_program.specs.CutoverCore.Attempts.{exchange, locker_call, writes_hint, is_free, clears, inspector_call, renamer_call, next};
@@ -12,7 +13,7 @@ use crate::cutover_core::cutover::{Clearing, CutOver, Hold, Leftovers, Phase, Ro
 use base_script::Statement;
 use base_values::tool_names::{ghost_name, log_name, old_name};
 use base_values::{Duplicate, Name, Sequence};
-use server_model::Request;
+use server_model::{LostCall, Request};
 use std::alloc::{AllocError, Global};
 use table_store::Pair;
 use tool_changelog::{hint_row, sentry_schema};
@@ -42,6 +43,26 @@ pub enum CutOverCall {
     ShowTables,
     /// The first of those that are left is dropped.
     DropFirst(Leftovers),
+}
+
+impl CutOverCall {
+    /// What a journal keeps of it, where it is lost before it is done; none where it keeps all.
+    pub fn lost(self) -> Option<LostCall>
+        ensures { (cutover : CutOver) → result ≡ lost_of (asked_in cutover self) }
+    {
+        match self {
+            CutOverCall::Exchange | CutOverCall::Unlock => None,
+            CutOverCall::MakeSentry
+            | CutOverCall::Lock
+            | CutOverCall::WriteHint
+            | CutOverCall::ShowCounter
+            | CutOverCall::SetCounter(_)
+            | CutOverCall::ShowWaiting
+            | CutOverCall::DropSentry
+            | CutOverCall::ShowTables
+            | CutOverCall::DropFirst(_) => Some(LostCall::Other),
+        }
+    }
 }
 
 /// The table and the sentry's name are locked.

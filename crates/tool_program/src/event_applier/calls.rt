@@ -2,6 +2,7 @@
 
 ghost use Rattle.std.specs.Prelude.{◌≡◌, [], ◌∷◌, false, IfOk, OnErr};
 ghost use Rattle.server_model.specs.Conditions.{is_free};
+ghost use Rattle.server_model.specs.LostCalls.{lost_of};
 ghost use Rattle.server_model.specs.declared.request.Request.TheVariants as requests;
 ghost use Rattle.base_values.specs.ToolNames.{log_name};
 ghost use Rattle.tool_program.specs.EventApplier.Appliers.{starts, statement_result, call_at, doing_at, next, row_done};
@@ -10,7 +11,7 @@ use crate::event_applier::applier::{Applier, ApplyStep};
 use crate::event_applier::batch_plan::row_done;
 use base_values::tool_names::log_name;
 use base_values::{Duplicate, Sequence, Value};
-use server_model::{Entry, Request};
+use server_model::{Entry, LostCall, Request};
 use std::alloc::{AllocError, Global};
 
 impl Applier {
@@ -47,6 +48,21 @@ impl Applier {
                 None => Ok(Request::Commit),
             },
             ApplyStep::Committing(_) => Ok(Request::Commit),
+        }
+    }
+
+    /// What a journal keeps of the next call, where that is lost before it is done; none where it keeps all.
+    #[tactic(auto, unfolding(crate::specs::EventApplier::Appliers::next))]
+    pub fn lost(&self, journal: &[Entry]) -> Option<LostCall>
+        ensures { result ≡ lost_of (next journal.now self.now) }
+    {
+        match self.step {
+            ApplyStep::Reading | ApplyStep::Beginning(_) => Some(LostCall::Other),
+            ApplyStep::Applying { .. } => match self.doing(journal) {
+                Some(planned) => Some(self.lost_statement(planned)),
+                None => None,
+            },
+            ApplyStep::Committing(_) => None,
         }
     }
 

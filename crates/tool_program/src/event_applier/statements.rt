@@ -1,8 +1,10 @@
 //! The statements on the new table.
 
-ghost use Rattle.std.specs.Prelude.{◌≡◌, ◌==◌, IfOk};
+ghost use Rattle.std.specs.Prelude.{◌≡◌, ◌==◌, Some, IfOk};
 ghost use Rattle.std.specs.List.{list_any};
 ghost use Rattle.base_values.specs.RowConversion.ConvertedRows.{source};
+ghost use Rattle.server_model.specs.LostCalls.{begins_with_zero, lost_of};
+ghost use Rattle.server_model.specs.declared.request.Request.TheVariants.{Do};
 ghost use Rattle.tool_program.specs.EventApplier.Appliers.{value_at, given_values, sets, name_at, by_key, statement_of};
 ghost use Rattle.tool_program.specs.EventApplier.BatchPlans.{meant};
 
@@ -12,6 +14,7 @@ use base_script::{Condition, Set, Sets, Statement};
 use base_values::gho_schema::{Column, Schema};
 use base_values::row_conversion::{MapColumn, source};
 use base_values::{Duplicate, Name, Row, Sequence, Shared, Value};
+use server_model::{LostCall, is_zero};
 use std::alloc::{AllocError, Global};
 
 fn value_of(column: &MapColumn, row: &[Value]) -> Result<Value, AllocError>
@@ -30,6 +33,17 @@ fn given_values(alloc: Global, map: &[MapColumn], row: &[Value]) -> Result<Row, 
         values.push(value_of(column, row)?)?;
     }
     Shared::from_sequence(values)
+}
+
+/// Whether the values for all new columns begin with the number 0.
+fn given_zero(map: &[MapColumn], row: &[Value]) -> bool
+    ensures { result ≡ begins_with_zero (given_values map.now row.now) }
+{
+    let null = Value::Null;
+    match map {
+        [first, ..] => is_zero(source(&first.origin, row, &null)),
+        [] => false,
+    }
 }
 
 /// The name of the column at a place; empty where there is none.
@@ -105,6 +119,16 @@ fn sets(
 }
 
 impl Applier {
+    /// What a journal keeps of the statement that does what is planned, where that is lost before it is done.
+    pub(crate) fn lost_statement(&self, planned: Planned<'_>) -> LostCall
+        ensures { Some result ≡ lost_of (Do (statement_of self.now (meant planned.entry))) }
+    {
+        match planned {
+            Planned::Put(row) => LostCall::Replace(given_zero(self.map.as_slice(), row.as_slice())),
+            Planned::Remove(_) | Planned::Change(..) => LostCall::Other,
+        }
+    }
+
     /// The statement that does what is planned.
     pub(crate) fn statement_of(
         &self,
