@@ -1,18 +1,22 @@
 //! The turn that is due.
 
-ghost use Rattle.std.specs.Prelude.{◌≡◌, Some, option_map, IfOk, OnErr};
+ghost use Rattle.std.specs.Prelude.{◌≡◌, false, Some, option_map, IfOk, OnErr};
+ghost use Rattle.server_model.specs.LostCalls.{lost_in};
 ghost use Rattle.server_model.specs.States.{State};
+ghost use Rattle.server_model.specs.declared.entry.Asked as asked;
 ghost use Rattle.tool_program.specs.Tools.{moment};
 ghost use Rattle.proof_journals.specs.Run.Counts.{IsAfter};
 ghost use Rattle.run_state.specs.Books.{IsRunState};
+ghost use Rattle.run_state.specs.NextAsked.{asked_of};
 ghost use Rattle.run_turns.specs.DueTurns.Due.{due, MayCost};
+ghost use Rattle.run_turns.specs.DueTurns.MigrationRun.FreeTurns.{is_freely_made};
 ghost use Rattle.run_turns.specs.DueTurns.NextTurns.{turn_in};
 
 use crate::due_turns::migration_run::Turn;
-use base_script::Actor;
+use base_script::{Actor, Side};
 use run_state::{NextAsked, RunState};
 use server_api::Serve;
-use server_model::Asked;
+use server_model::{Asked, LostCall, TurnAsked};
 use std::alloc::{AllocError, Global};
 
 /// What is due where an actor is to take a turn.
@@ -41,6 +45,35 @@ pub fn next_turn<'b, V: Serve>(
     }
 }
 
+/// What is asked by this, where it is lost before it is done and this is kept of it.
+fn lost_in_turn(run_state: &RunState<'_>, next: NextAsked<'_>, lost: LostCall) -> TurnAsked
+    ghost what: { asked.Asked }
+    requires what { asked_of run_state.now next ≡ what }
+    requires lost { lost_in what ≡ Some lost }
+    ensures { result ≡ what }
+{
+    let _ = (run_state, next);
+    TurnAsked::lost(lost)
+}
+
+/// What an actor asks in a turn in which its session is lost here. Of a call that is lost before it is done the journal keeps what
+/// there is to keep of it, which takes no memory.
+#[tactic(auto, using(crate::proofs::RunTurns::Costs::kept_whole))]
+fn asked_in(
+    alloc: Global,
+    run_state: &RunState<'_>,
+    side: Option<Side>,
+    next: NextAsked<'_>,
+) -> Result<TurnAsked, AllocError>
+    ensures asked { IfOk result (λ asked. asked ≡ asked_of run_state.now next.entry) }
+    ensures costs { OnErr result (is_freely_made side (asked_of run_state.now next.entry) ≡ false) }
+{
+    match (side, run_state.lost(next)) {
+        (Some(Side::Before), Some(lost)) => Ok(lost_in_turn(run_state, next, lost)),
+        _ => Ok(TurnAsked::all(run_state.asked(alloc, next)?)),
+    }
+}
+
 /// The turn that is due. A free turn takes no memory here.
 #[tactic(auto, using(crate::proofs::RunTurns::Costs::asked_costs))]
 pub fn turn_of(
@@ -58,12 +91,15 @@ pub fn turn_of(
         NextTurn::Cut(other) => Ok(Turn {
             actor: other,
             side: None,
-            asked: Asked::Cut,
+            asked: TurnAsked::all(Asked::Cut),
         }),
-        NextTurn::Given(next) => Ok(Turn {
-            actor,
-            side: run_state.side_due(actor),
-            asked: run_state.asked(alloc, next)?,
-        }),
+        NextTurn::Given(next) => {
+            let side = run_state.side_due(actor);
+            Ok(Turn {
+                actor,
+                side,
+                asked: asked_in(alloc, run_state, side, next)?,
+            })
+        }
     }
 }

@@ -192,8 +192,8 @@ impl<'a, V: Serve> Run<'a, V> {
     /// Takes the turn that is due where the actor is to take one: a loss between calls, whosever session it takes, or else
     /// the actor's turn with what is given to it. `NoMemory` leaves the run as it was, but for a session that the server may
     /// have made for the turn and that is lost again; it comes too where the turn is to open a session and the server gave its
-    /// last number. It never comes of a free turn: a loss between calls, COMMIT, ROLLBACK, UNLOCK TABLES, and a poll for names of
-    /// tables that stays blocked.
+    /// last number. It never comes of a free turn: a loss between calls, or before a call other than a RENAME, COMMIT, ROLLBACK,
+    /// UNLOCK TABLES, and a poll for names of tables that stays blocked.
     #[tactic(auto, using(crate::proofs::Steps::after_moment, crate::proofs::Steps::none_due))]
     pub fn step(&mut self, actor: Actor) -> Stepped
         ensures { Steps self.old actor result self.new }

@@ -1,14 +1,16 @@
 -- Which turns that are due may take memory.
 use Rattle.std.proofs.Common.{◌≡◌, ℕ, Bool, true, false, List, Option, Some, None, refl, sym, ap, ◌∙◌, subst}
-use Rattle.std.specs.Prelude.{if◌then◌else◌, ◌&&◌, is_some, Result, Ok, Err, OnErr}
+use Rattle.std.specs.Prelude.{if◌then◌else◌, ◌&&◌, ◌||◌, is_some, Result, Ok, Err, OnErr}
 use Rattle.std.proofs.lemmas.Bool.{true≢false, false≢true}
 use Rattle.base_script.specs.declared.actor.Actor.{Actor}
 use Rattle.base_script.specs.declared.actor.Actor.TheVariants.{Op, Insp, Copy, Apply, Lock, Ren, Client}
 use Rattle.base_script.specs.declared.actor.Side.{Side}
 use Rattle.base_script.specs.declared.actor.Side.TheVariants.{Before, After}
+use Rattle.base_script.specs.declared.statement.Statement.TheVariants as statements
 use Rattle.server_model.specs.Blockers.{need, blocker}
 use Rattle.server_model.specs.Conditions.{is_free, is_blocked_exclusive}
 use Rattle.server_model.specs.Entries.{is_command}
+use Rattle.server_model.specs.LostCalls.{lost_in}
 use Rattle.server_model.specs.States.{State, waiting_of, is_exclusive}
 use Rattle.server_model.specs.declared.entry.Asked.{Asked}
 use Rattle.server_model.specs.declared.entry.Asked.TheVariants.{Call, Poll, Command, Cut}
@@ -16,9 +18,11 @@ use Rattle.server_model.specs.declared.entry.Entry.{Entry}
 use Rattle.server_model.specs.declared.request.Request.{Request}
 use Rattle.server_model.specs.declared.request.Request.TheVariants as requests
 use Rattle.server_model.specs.declared.session.Waiting.{Waiting}
+use Rattle.table_store.specs.declared.renames.Pair.{Pair}
 use Rattle.plan_data.specs.PlanData.{PlanData}
 use Rattle.tool_program.specs.FreeCalls.{is_freely_asked}
 use Rattle.tool_program.specs.JournalWords.Journals.{state_at}
+use Rattle.tool_program.specs.JournalWords.KeptPlans.{side_due}
 use Rattle.tool_program.specs.JournalWords.Sessions.{live_session}
 use Rattle.tool_program.specs.Programs.{tool_call, given}
 use Rattle.tool_program.specs.Setups as setups
@@ -35,10 +39,12 @@ use Rattle.proof_journals.proofs.Machine.Journals.{Asking, calls_so, polls_so, a
 use Rattle.proof_journals.proofs.Machine.Tabling.{tables_exist}
 use Rattle.run_state.specs.declared.run_state.RunState.{RunState}
 use Rattle.run_turns.specs.declared.due_turns.migration_run.turn.Turn.{Turn}
-use Rattle.run_turns.specs.DueTurns.MigrationRun.FreeTurns.{is_free_in, is_free_turn}
+use Rattle.run_turns.specs.DueTurns.MigrationRun.FreeTurns.{is_free_in, is_free_turn, is_freely_lost, is_freely_made, is_freely_passed}
+use Rattle.run_turns.specs.DueTurns.MigrationRun.ServerTurns.{is_before}
 use Rattle.run_turns.specs.DueTurns.Due.{own_turn, due, MayCost}
 use Rattle.run_turns.specs.DueTurns.DueCalls.Ranges.{is_reaching, is_inspector, is_heard, reads_range}
 use Rattle.run_turns.specs.RunTurns.Invariants.{IsDue, IsRun}
+use Rattle.run_turns.proofs.DueTurns.MigrationRun.Costs.{not_passed}
 use Rattle.run_turns.proofs.DueTurns.Coming.{Comes, Cuts, Gives, comes}
 
 -- WHAT IS GIVEN
@@ -56,21 +62,48 @@ costly_call (Some Poll) costs = absurd (true≢false costs)
 costly_call (Some (Command word)) costs = absurd (true≢false costs)
 costly_call (Some Cut) costs = absurd (true≢false costs)
 
-call_costs_in : (server : State) (session : ℕ) (side : Option Side) (request : Request) → is_free request ≡ false → is_free_in server session side (Call request) ≡ false
-call_costs_in server session (Some After) request costs = refl
-call_costs_in server session (Some Before) request costs = costs
-call_costs_in server session None request costs = costs
+call_costs : (server : State) (session : Option ℕ) (turn : Turn) (request : Request) → turn.asked ≡ Call request → turn.side ≡ None → is_free request ≡ false → is_free_turn server session turn ≡ false
+call_costs server None turn request is heard costs = ap (λ (asked : Asked). is_command asked || is_freely_passed server turn) is ∙ not_passed server turn (ap is_before heard)
+call_costs server (Some session) turn request is heard costs = ap (is_free_in server session turn.side) is ∙ ap (λ (side : Option Side). is_free_in server session side (Call request)) heard ∙ costs
 
-call_costs : (server : State) (session : Option ℕ) (turn : Turn) (request : Request) → turn.asked ≡ Call request → is_free request ≡ false → is_free_turn server session turn ≡ false
-call_costs server None turn request is costs = ap is_command is
-call_costs server (Some session) turn request is costs = ap (is_free_in server session turn.side) is ∙ call_costs_in server session turn.side request costs
+-- a RENAME alone costs where it is lost before it is done
+record Renames (asked : Asked) : Type 0 where
+  pairs : List Pair
+  is : asked ≡ Call (requests.Rename pairs)
 
--- *A call that takes memory* makes a turn that does
-pub asked_costs : (plan : PlanData) (journal : List Entry) (server : State) (actor : Actor) (asked : Asked) → Some (own_turn plan journal actor asked) ≡ due plan journal actor → is_freely_asked (Some asked) ≡ false → MayCost plan journal server actor
-asked_costs plan journal server actor asked is costs =
+renames : (asked : Asked) → is_freely_lost asked ≡ false → Renames asked
+renames (Call (requests.Rename pairs)) costs = record { pairs = pairs; is = refl }
+renames asked costs = absurd (true≢false costs)
+
+-- what isn't asked without memory makes a turn that costs
+made_costs : (server : State) (session : Option ℕ) (actor : Actor) (side : Option Side) (asked : Asked) → is_freely_made side asked ≡ false → is_free_turn server session (record { actor = actor; side = side; asked = asked }) ≡ false
+made_costs server session actor None asked costs =
     let call : CostlyCall (Some asked) = costly_call (Some asked) costs in
     let same : asked ≡ Call call.request = cc in
-    record { turn = own_turn plan journal actor asked; is_due = sym is; costs = call_costs server (live_session journal actor) (own_turn plan journal actor asked) call.request same call.costs }
+    call_costs server session (record { actor = actor; side = None; asked = asked }) call.request same refl call.costs
+made_costs server None actor (Some After) asked costs =
+    let call : CostlyCall (Some asked) = costly_call (Some asked) costs in
+    let same : asked ≡ Call call.request = cc in
+    ap (λ (a : Asked). is_command a || false) same
+made_costs server (Some session) actor (Some After) asked costs = refl
+made_costs server None actor (Some Before) asked costs =
+    let one : Renames asked = renames asked costs in
+    ap (λ (a : Asked). is_command a || is_freely_passed server (record { actor = actor; side = Some Before; asked = a })) one.is
+made_costs server (Some session) actor (Some Before) asked costs = costs
+
+-- what the journal keeps whole takes memory only where it isn't free
+pub kept_whole : (asked : Asked) → is_freely_asked (Some asked) ≡ false → lost_in asked ≡ None → is_freely_lost asked ≡ false
+kept_whole (Call requests.Commit) costs whole = absurd (true≢false costs)
+kept_whole (Call requests.Rollback) costs whole = absurd (true≢false costs)
+kept_whole (Call requests.Unlock) costs whole = absurd (true≢false costs)
+kept_whole (Call (requests.Rename pairs)) costs whole = refl
+kept_whole (Call (requests.Do (statements.Replace table columns row drawn))) costs whole = absurd (cc)
+kept_whole (Call request) costs whole = absurd (cc)
+kept_whole asked costs whole = absurd (true≢false costs)
+
+-- what is given makes a turn that is due
+pub asked_costs : (plan : PlanData) (journal : List Entry) (server : State) (actor : Actor) (asked : Asked) → Some (own_turn plan journal actor asked) ≡ due plan journal actor → is_freely_made (side_due plan journal actor) asked ≡ false → MayCost plan journal server actor
+asked_costs plan journal server actor asked is costs = record { turn = own_turn plan journal actor asked; is_due = sym is; costs = made_costs server (live_session journal actor) actor (side_due plan journal actor) asked costs }
 
 -- a turn that is due costs where it isn't free
 pub turn_costs : {A E : Type 0} (plan : PlanData) (journal : List Entry) (server : State) (actor : Actor) (turn : Turn) (r : Result A E) → Some turn ≡ due plan journal actor → OnErr r (is_free_turn server (live_session journal turn.actor) turn ≡ false) → OnErr r (MayCost plan journal server actor)
@@ -144,22 +177,22 @@ module _ (plan : PlanData) (journal : List Entry) (one : RunState) (sessions : �
       cc
 
   poll_costs : (live : Option ℕ) → live_session journal Insp ≡ live → turn.asked ≡ Poll → turn.side ≡ None → (standing_in (state_at plan journal) live).waits ≡ Some (requests.Ends plan.table) → is_free_turn server live turn ≡ false
-  poll_costs None lives polls heard waits = ap is_command polls
+  poll_costs None lives polls heard waits = ap (λ (asked : Asked). is_command asked || is_freely_passed server turn) polls ∙ not_passed server turn (ap is_before heard)
   poll_costs (Some n) lives polls heard waits =
       ap (λ (a : Asked). is_free_in server n turn.side a) polls ∙ ap (λ (side : Option Side). is_free_in server n side Poll) heard
       ∙ not_blocked server n plan.table (waiting_of n server.waiting) (ap (λ (s : State). request_of (waiting_of n s.waiting)) run.server.same ∙ waits)
 
-  heard_poll : turn.asked ≡ Poll → turn.side ≡ None
-  heard_poll polls = by turn.side refl
+  heard_side : turn.side ≡ None
+  heard_side = by turn.side refl
     where
       by : (side : Option Side) → turn.side ≡ side → side ≡ None
       by None at = refl
-      by (Some side) at = absurd (false≢true (sym (ap (λ (a : Asked). is_heard turn.side a) polls ∙ ap (λ (s : Option Side). is_heard s Poll) at) ∙ is.heard))
+      by (Some side) at = absurd (false≢true (sym (ap (λ (s : Option Side). is_heard s turn.asked) at) ∙ is.heard))
 
   asks_ends : Asking plan journal Insp turn.asked → is_free_turn server (live_session journal Insp) turn ≡ false
-  asks_ends (calls_so request same idle call) = call_costs server (live_session journal Insp) turn request same (ap is_free (called_ends request call))
+  asks_ends (calls_so request same idle call) = call_costs server (live_session journal Insp) turn request same heard_side (ap is_free (called_ends request call))
   asks_ends (polls_so request same waits) =
-      poll_costs (live_session journal Insp) refl same (heard_poll same) (waits ∙ ap Some (polled_ends request waits))
+      poll_costs (live_session journal Insp) refl same heard_side (waits ∙ ap Some (polled_ends request waits))
 
   inspector_given : given plan journal turn.actor ≡ Some turn.asked → Asking plan journal Insp turn.asked
   unfolding given

@@ -14,15 +14,8 @@ ghost use Rattle.run_turns.specs.RunTurns.Invariants.{IsDue, IsRun};
 use crate::due_turns::migration_run::{Counts, Taken, Turn, has_work, take_turn};
 use run_state::RunState;
 use server_api::Serve;
-use server_model::{Answer, Asked, Entry};
+use server_model::{Answer, Entry};
 use std::alloc::AllocError;
-
-/// Whether a command is asked.
-fn is_command(asked: &Asked) -> bool
-    ensures { result ≡ is_command asked.now }
-{
-    matches!(asked, Asked::Command(_))
-}
 
 /// The entry of a command, which asks nothing of the server.
 fn command_entry(turn: Turn) -> Entry
@@ -70,7 +63,8 @@ fn sessions_after(sessions: u32, session: Option<u32>) -> u32
 
 /// Whether no number is left for the session that a turn is to open.
 fn is_last(sessions: u32, session: Option<u32>) -> bool
-    ensures last { result ≡ true → session ≡ None }
+    ensures new { result ≡ true → session ≡ None }
+    ensures last { result ≡ true → sessions ≡ u32.MAX }
     ensures left { result ≡ false → session ≡ None → sessions < u32.MAX }
 {
     session.is_none() && sessions == u32::MAX
@@ -99,13 +93,14 @@ pub fn serve_turn<V: Serve>(
         load: run_state.load,
         busy: run_state.busy,
     };
-    if is_command(&turn.asked) {
+    if turn.asked.is_command() {
         return Ok(command_turn(server, counts, turn));
     }
     let session = run_state.session(turn.actor);
-    if is_last(*sessions, session) {
+    let made = server.made();
+    if is_last(made, session) {
         return Err(AllocError);
     }
-    *sessions = sessions_after(*sessions, session);
+    *sessions = sessions_after(made, session);
     take_turn(server, session, counts, turn)
 }

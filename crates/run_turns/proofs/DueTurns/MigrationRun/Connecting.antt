@@ -6,12 +6,14 @@ use Rattle.std.proofs.lemmas.Bool.{false≢true}
 use Rattle.base_script.specs.declared.actor.Actor.{Actor}
 use Rattle.base_script.specs.declared.operator.OperatorWord.{OperatorWord}
 use Rattle.base_script.specs.declared.actor.Side.{Side}
+use Rattle.base_script.specs.declared.actor.Side.TheVariants.{Before}
+use Rattle.server_model.specs.declared.answer.Answer.{Answer}
 use Rattle.server_model.specs.declared.entry.Asked.{Asked}
 use Rattle.server_model.specs.declared.entry.Asked.TheVariants.{Command, Cut}
 use Rattle.server_model.specs.Entries.{is_client}
 use Rattle.server_model.specs.declared.session.Session.{Session}
 use Rattle.server_model.specs.States.{State, session_of, is_live, is_waiting, new_session, connected}
-use Rattle.server_model.specs.PlainServer.{loses, state_left}
+use Rattle.server_model.specs.PlainServer.{loses, state_left, given_at, drawn_in, number_drawn, serves}
 use Rattle.server_model.specs.Counting.{counted}
 use Rattle.server_model.specs.Conditions.{MayLose}
 use Rattle.tool_program.specs.JournalWords.Journals.{opens_if}
@@ -76,6 +78,9 @@ made_lost state session = refl
 pub may_lose : (state : State) (session : ℕ) → is_live state session ≡ true → MayLose state session None Cut
 may_lose state session live = record { live = live; well = refl }
 
+pub lost_live : (state : State) (session : ℕ) (side : Option Side) (asked : Asked) → MayLose state session side asked → is_live state session ≡ true
+lost_live state session side asked may = may.live
+
 -- what connecting gives
 pub opens_ok : {E : Type 0} (r : Result ℕ E) (state after : State) (actor : Actor) → IfOk r (λ number. number ≡ state.made + 1) → OnOk r (after ≡ connected (state.made + 1) (not (is_client actor)) state)
     → IfOk r (λ number. (reported : State) → IsAfter reported state → IsSessionOf reported actor None → IsAfter (opens_if false (not (is_client actor)) number reported) after)
@@ -107,3 +112,15 @@ command_left state number word = refl
 pub commanded_left : (state : State) (number : ℕ) (side : Option Side) (asked : Asked) (word : OperatorWord) → side ≡ None → asked ≡ Command word → state ≡ state_left side state number asked
 commanded_left state number side asked word none asks =
     command_left state number word ∙ ap (λ (a : Asked). state_left None state number a) (sym asks) ∙ ap (λ (s : Option Side). state_left s state number asked) (sym none)
+
+-- what is lost before it is done leaves what a loss between calls leaves
+pub left_before : (state : State) (number : ℕ) (asked : Asked) → state_left (Some Before) state number asked ≡ loses number state
+unfolding loses
+left_before state number asked = refl
+
+pub given_before : (asked : Asked) (answer : Answer) → given_at (Some Before) asked answer ≡ None
+given_before Cut answer = refl
+given_before asked answer = refl
+
+pub drawn_before : (state : State) (number : ℕ) (asked : Asked) → number_drawn (Some Before) state number asked ≡ None
+drawn_before state number asked = ap (drawn_in state number asked) (given_before asked (serves state number asked).answer)

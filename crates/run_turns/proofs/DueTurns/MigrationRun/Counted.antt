@@ -3,22 +3,25 @@ use Rattle.std.proofs.Common.{◌≡◌, ℕ, ◌+◌, ◌≤◌, ◌==◌, Bool
 use Rattle.std.specs.Prelude.{count_by}
 use Rattle.std.specs.Option.{option_map}
 use Rattle.base_script.specs.declared.actor.Side.{Side}
+use Rattle.base_script.specs.declared.actor.Side.TheVariants as sides
+use Rattle.server_model.specs.declared.answer.Answer.TheVariants as answers
 use Rattle.server_model.specs.declared.entry.Asked.{Asked}
 use Rattle.server_model.specs.declared.entry.Asked.TheVariants.{Call, Poll, Command, Cut}
 use Rattle.server_model.specs.declared.entry.Entry.{Entry}
 use Rattle.server_model.specs.declared.session.Session.{Session}
 use Rattle.server_model.specs.Entries.{is_client}
-use Rattle.server_model.specs.States.{State, session_of, is_waiting, is_in_transaction, holds_tables, new_session, connected, has_work, load}
-use Rattle.server_model.specs.PlainServer.{serves, state_left, number_drawn, given_at}
+use Rattle.server_model.specs.States.{State, session_of, is_waiting, is_in_transaction, holds_tables, new_session, connected, passed, has_work, load}
+use Rattle.server_model.specs.PlainServer.{serves, loses, state_left, number_drawn, given_at}
 use Rattle.tool_program.specs.JournalWords.Journals.{opens_if, after_entry, heard, missed}
-use Rattle.proof_journals.specs.Run.Counts.{IsAfter, kind_of, is_open, is_busy, busy_count, weight, weigh, others}
+use Rattle.proof_journals.specs.Run.Counts.{IsAfter, numbered, kind_of, is_open, is_busy, busy_count, weight, weigh, others}
 use Rattle.proof_journals.proofs.Run.Turns.{is_lost, kind_left, Leaves, turn_leaves, opened_kind, opened, entry_turned}
+use Rattle.proof_journals.proofs.Run.Waits.{lost_at_once}
 use Rattle.proof_journals.proofs.Run.Tallies.{tally, tally_is, tally_parts, load_turns, busy_turns}
 use Rattle.run_turns.specs.declared.due_turns.migration_run.turn.Turn.{Turn}
 use Rattle.run_turns.specs.declared.due_turns.migration_run.counting.Counts.{Counts}
 use Rattle.run_turns.specs.DueTurns.MigrationRun.Sessions.{IsSessionOf}
 use Rattle.run_turns.specs.DueTurns.MigrationRun.ServerTurns.{session_for, made_for, opened_on, answer_on, entry_on, is_lost_in, counts_of, MayTurn}
-use Rattle.run_turns.proofs.DueTurns.MigrationRun.Connecting.{kind_live}
+use Rattle.run_turns.proofs.DueTurns.MigrationRun.Connecting.{kind_live, left_before, drawn_before}
 
 -- a session by whose it would be
 none_there : (found : Option Session) → option_map (λ (s : Session). s.is_tool) found ≡ None → found ≡ None
@@ -232,6 +235,20 @@ module _ (state : State) (own : Option ℕ) (turn : Turn) (may : MayTurn state o
   pub made_after : after.made ≤ made_for own state.made
   made_after = omega (arith, open_made, left_rec.made)
 
+  -- WHERE A NEW SESSION IS LOST BEFORE IT ASKS ANYTHING
+
+  -- its number is used up
+  pub passes : own ≡ None → turn.side ≡ Some sides.Before → passed state ≡ after
+  passes none lost =
+      let next : number ≡ state.made + 1 = ap (λ (o : Option ℕ). session_for o state.made) none in
+      let most : max state.made number ≡ state.made + 1 = omega (arith, next) in
+      sym
+      (ap (λ (side : Option Side). state_left side open_now number turn.asked) lost
+      ∙ left_before open_now number turn.asked
+      ∙ ap (loses number) (new_is (none_there (session_of number state.sessions) (none_before none)))
+      ∙ lost_at_once state number tool (none_before none) (none_waiting none)
+      ∙ ap (λ (n : ℕ). numbered n state) most)
+
   -- WHAT IS TOLD
 
   module _ (one : State) (k : ℕ) (is : one ≡ opens_if false tool k state) (same : k ≡ number) where
@@ -309,3 +326,11 @@ pub entry_same : (state : State) (session : ℕ) (turn : Turn) (entry : Entry) �
     → entry ≡ entry_on state session turn
 unfolding entry_on
 entry_same state session turn entry actor number asked side answer missed draw = λ i. record { actor = actor i; session = number i; asked = asked i; side = side i; answer = answer i; missed = missed i; draw = draw i }
+
+-- that of a turn which is lost before what it asks is done
+pub passed_entry : (state : State) (session : ℕ) (turn : Turn) (entry : Entry) → turn.side ≡ Some sides.Before → entry.actor ≡ turn.actor → entry.session ≡ session → entry.asked ≡ turn.asked → entry.side ≡ turn.side → entry.answer ≡ answers.Lost → entry.missed ≡ None → entry.draw ≡ None → entry ≡ entry_on state session turn
+passed_entry state session turn entry lost actor number asked side answer none undrawn =
+    entry_same state session turn entry actor number asked side
+    (answer ∙ sym (ap (λ (s : Option Side). heard s (answer_on state session turn)) lost))
+    (none ∙ sym (ap (λ (s : Option Side). missed s (answer_on state session turn)) lost))
+    (undrawn ∙ sym (drawn_before (opened_on state session turn) session turn.asked) ∙ sym (ap (λ (s : Option Side). number_drawn s (opened_on state session turn) session turn.asked) lost))

@@ -1,6 +1,7 @@
 -- *A turn on a server*: who asks what in which session, and what it is answered. (This project's rule.)
 use Rattle.std.specs.Prelude.{◌≡◌, ◌+◌, ◌<◌, ◌≤◌, ℕ, Bool, true, false, not, length, Option, Some, None}
 use Rattle.base_script.specs.declared.actor.Side.{Side}
+use Rattle.base_script.specs.declared.actor.Side.TheVariants.{Before}
 use Rattle.server_model.specs.declared.answer.Answer.{Answer}
 use Rattle.server_model.specs.declared.entry.Asked.{Asked}
 use Rattle.server_model.specs.declared.entry.Asked.TheVariants.{Cut}
@@ -44,6 +45,11 @@ abbrev pub is_lost_in : Option Side → Asked → Bool
 is_lost_in None Cut = true
 is_lost_in None asked = false
 is_lost_in (Some side) asked = true
+
+-- it is lost before what is asked is done
+abbrev pub is_before : Option Side → Bool
+is_before (Some Before) = true
+is_before side = false
 
 -- how many transactions of clients are open, and how many sessions of the tool's wait or are in one
 abbrev pub counts_of : State → Counts

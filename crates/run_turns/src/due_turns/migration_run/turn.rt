@@ -4,7 +4,7 @@ ghost use Rattle.std.specs.Prelude.{◌≡◌};
 ghost use Rattle.run_turns.specs.DueTurns.MigrationRun.ServerTurns.{is_lost_in};
 
 use base_script::{Actor, Side};
-use server_model::Asked;
+use server_model::{Asked, AskedView, TurnAsked};
 
 /// What an actor asks in its turn, and where its session is lost in it.
 pub struct Turn {
@@ -13,7 +13,7 @@ pub struct Turn {
     /// Where the session is lost: before the call is done, or after.
     pub side: Option<Side>,
     /// What is asked.
-    pub asked: Asked,
+    pub asked: TurnAsked,
 }
 
 // By hand, and by a call for what is asked: a function that lets a turn go, here or in a crate above, then has one call, and
@@ -31,7 +31,7 @@ impl Drop for Turn {
 
 impl Turn {
     /// What is asked.
-    pub fn into_asked(self) -> Asked
+    pub fn into_asked(self) -> TurnAsked
         ensures { result ≡ self.asked }
     {
         let Turn {
@@ -46,8 +46,8 @@ impl Turn {
     pub fn is_lost(&self) -> bool
         ensures { result ≡ is_lost_in self.now.side self.now.asked }
     {
-        match (self.side, &self.asked) {
-            (None, Asked::Cut) | (Some(_), _) => true,
+        match (self.side, self.asked.view()) {
+            (None, AskedView::All(Asked::Cut)) | (Some(_), _) => true,
             (None, _) => false,
         }
     }

@@ -1,4 +1,4 @@
-use Rattle.std.proofs.Common.{rules, ◌≡◌, ◌≤◌, ℕ, Option, true, false, refl, sym, ap, ◌∙◌}
+use Rattle.std.proofs.Common.{rules, ◌≡◌, ◌<◌, ◌≤◌, ℕ, Option, true, false, refl, sym, ap, ◌∙◌, subst}
 use Rattle.std.proofs.lemmas.Result.{IfOk-weaker, on_ok_weaker, on_err_weaker}
 use Rattle.server_model.specs.Entries.{is_command}
 use Rattle.server_model.specs.States.{has_work}
@@ -8,7 +8,7 @@ use Rattle.run_turns.specs.declared.due_turns.migration_run.turns.Taken.{Taken}
 use Rattle.run_turns.specs.DueTurns.MigrationRun.ServerTurns.{session_for, entry_on}
 use Rattle.run_turns.specs.DueTurns.Due.{session_at, next_entry}
 use Rattle.run_turns.specs.DueTurns.MigrationRun.FreeTurns.{is_free_turn}
-use Rattle.run_turns.proofs.DueTurns.MigrationRun.Costs.{opens_one}
+use Rattle.run_turns.proofs.DueTurns.MigrationRun.Costs.{opens_one, none_left}
 use Rattle.run_turns.proofs.RunTurns.Served.{session_is, command_session, command_still, command_side, run_state_counts, may_turn, entry_of_command, entry_of_session, session_of_entry}
 use Rattle.run_turns.proofs.run_turns.answers.serve_turn.Goals as goal
 
@@ -39,7 +39,7 @@ take_turn-requires-clause-may g c =
     let few : c.args.sessions.now ≤ 4294967295 = search rules in
     rw c.session-session.ensures
     (may_turn c.args.run_state.now.plan.now c.args.run_state.now.journal.items c.args.run_state.now c.args.sessions.now (g.V.Serve.state c.args.server.now) c.args.turn c.requires.run c.requires.due (sym c.is_command.ensures ∙ c.if-is_command.false) few
-    (λ none. c.is_last.ensures.left c.if-is_last.false (c.session-session.ensures ∙ none)))
+    (λ none. subst (λ (n : ℕ). n < 4294967295) c.made-made.ensures (c.is_last.ensures.left c.if-is_last.false (c.session-session.ensures ∙ none))))
 
 pub take_turn-requires-clause-counts : goal.take_turn-requires-clause-counts
 take_turn-requires-clause-counts g c =
@@ -68,7 +68,8 @@ returns-clause-ok g c =
 
 pub returns-then-is_last-clause-costs : goal.returns-then-is_last-clause-costs
 returns-then-is_last-clause-costs g c =
-    opens_one (g.V.Serve.state c.args.server.now) (live_session c.args.run_state.now.journal.items c.args.turn.actor) c.args.turn (sym c.is_command.ensures ∙ c.if-is_command.false) (sym c.session-session.ensures ∙ c.is_last.ensures.last c.if-is_last.true)
+    opens_one (g.V.Serve.state c.args.server.now) (live_session c.args.run_state.now.journal.items c.args.turn.actor) c.args.turn (sym c.is_command.ensures ∙ c.if-is_command.false) (sym c.session-session.ensures ∙ c.is_last.ensures.new c.if-is_last.true)
+    (none_left (g.V.Serve.state c.args.server.now) c.args.turn (sym c.made-made.ensures ∙ c.is_last.ensures.last c.if-is_last.true))
 
 pub returns-clause-costs : goal.returns-clause-costs
 returns-clause-costs g c =

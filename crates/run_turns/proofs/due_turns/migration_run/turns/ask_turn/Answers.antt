@@ -3,9 +3,9 @@ use Rattle.tool_program.specs.JournalWords.Journals.{heard, missed}
 use Rattle.proof_journals.specs.Run.Counts.{IsAfter}
 use Rattle.run_turns.proofs.DueTurns.MigrationRun.Counted.{given_reported, draw_reported, leaves_reported, kind_reported, work_reported, open_reported, busy_reported, open_part, busy_part, gone_reported, stays_reported, made_reported, counts_reported, err_after, err_made, entry_same}
 use Rattle.run_turns.specs.DueTurns.MigrationRun.FreeTurns.{is_free_turn}
-use Rattle.run_turns.proofs.DueTurns.MigrationRun.Costs.{opens_one, asks_so}
+use Rattle.run_turns.proofs.DueTurns.MigrationRun.Costs.{opens_one, asks_so, not_passed}
 use Rattle.run_turns.proofs.DueTurns.MigrationRun.Results.{on_err}
-use Rattle.run_turns.proofs.due_turns.migration_run.turns.take_turn.Goals as goal
+use Rattle.run_turns.proofs.due_turns.migration_run.turns.ask_turn.Goals as goal
 
 pub share_of-before-requires : goal.share_of-before-requires
 share_of-before-requires g c = kind_reported (g.V.Serve.state c.args.server.now) c.args.session c.args.turn c.requires.may (g.V.Serve.state c.open_session.new.server) c.in_ok-number.number (c.in_ok-number.ensures.opened c.requires.may.own) c.in_ok-number.ensures.next
@@ -71,9 +71,9 @@ returns-in_err-heard-clause-made g c =
 pub returns-in_err-number-clause-costs : goal.returns-in_err-number-clause-costs
 returns-in_err-number-clause-costs g c =
     on_err c.from_residual.result (is_free_turn (g.V.Serve.state c.args.server.now) c.args.session c.args.turn ≡ false)
-    (opens_one (g.V.Serve.state c.args.server.now) c.args.session c.args.turn c.requires.may.called c.in_err-number.ensures.costs)
+    (opens_one (g.V.Serve.state c.args.server.now) c.args.session c.args.turn c.requires.may.called c.in_err-number.ensures.costs (not_passed (g.V.Serve.state c.args.server.now) c.args.turn (c.requires.asks c.in_err-number.ensures.costs)))
 
 pub returns-in_err-heard-clause-costs : goal.returns-in_err-heard-clause-costs
 returns-in_err-heard-clause-costs g c =
     on_err c.from_residual-in_err-heard.result (is_free_turn (g.V.Serve.state c.args.server.now) c.args.session c.args.turn ≡ false)
-    (asks_so (g.V.Serve.state c.args.server.now) (g.V.Serve.state c.open_session.new.server) c.args.session c.in_ok-number.number c.args.turn c.requires.may.called c.in_ok-number.ensures.own c.open_session.ensures.same c.in_err-heard.ensures.costs)
+    (asks_so (g.V.Serve.state c.args.server.now) (g.V.Serve.state c.open_session.new.server) c.args.session c.in_ok-number.number c.args.turn c.requires.may.called c.requires.asks c.in_ok-number.ensures.own c.open_session.ensures.same c.in_err-heard.ensures.costs)
