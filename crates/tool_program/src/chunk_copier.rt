@@ -3,6 +3,7 @@
 mod answers;
 mod calls;
 mod copier;
+mod migrated_table;
 mod reach;
 mod reader;
 

@@ -10,7 +10,6 @@ ghost use Rattle.tool_program.specs.ChunkCopier.Copiers.{low_end, key_at, call_a
 
 use crate::chunk_copier::copier::{Copier, CopyRange, CopyStep};
 use crate::chunk_copier::reader::{end_reported, keys_reported};
-use base_values::tool_names::ghost_name;
 use base_values::{Bound, Duplicate, Key, Span, Value};
 use server_model::{Entry, LostCall, Request};
 use std::alloc::{AllocError, Global};
@@ -124,7 +123,7 @@ impl Copier {
     {
         Ok(match call {
             CopyCall::End(range) => Request::ChunkEnd {
-                table: self.table.copy()?,
+                table: self.table.name().copy()?,
                 low: self.low_end(alloc, journal, range)?,
                 top: range.top.copy()?,
                 size: self.size,
@@ -134,7 +133,7 @@ impl Copier {
                 reported,
                 size,
             } => Request::BeginSpan {
-                table: self.table.copy()?,
+                table: self.table.name().copy()?,
                 span: Span {
                     low: self.low_end(alloc, journal, range)?,
                     high: Bound::Closed(end_reported(alloc, journal, reported)?),
@@ -142,8 +141,8 @@ impl Copier {
                 size,
             },
             CopyCall::Row(key) => Request::CopyRow {
-                from: self.table.copy()?,
-                into: ghost_name(alloc, &self.table)?,
+                from: self.table.name().copy()?,
+                into: self.table.new_name().copy()?,
                 map: self.map.copy()?,
                 key: key.copy()?,
             },

@@ -1,7 +1,8 @@
 //! How far the copier is.
 
+use crate::chunk_copier::migrated_table::MigratedTable;
 use base_values::row_conversion::ColumnMap;
-use base_values::{Bound, Key, Name};
+use base_values::{Bound, Key};
 
 /// A chunk that was begun.
 #[derive(Clone, Copy)]
@@ -50,7 +51,7 @@ pub struct CopyRange {
 #[derive(Drop)]
 pub struct Copier {
     /// The migrated table.
-    pub table: Name,
+    pub table: MigratedTable,
     /// Where the values of the new columns come from.
     pub map: ColumnMap,
     /// What is copied; none where the table had no row.

@@ -30,15 +30,16 @@ fn copy_range(range: Option<KeyRange>) -> Option<CopyRange>
     }
 }
 
-fn new_copier(plan: &Plan) -> Result<Copier, AllocError>
+fn new_copier(alloc: Global, plan: &Plan) -> Result<Copier, AllocError>
     ensures { IfOk result (λ copier. copier ≡ (new_work plan.now plan.now.options.chunk_size 0 None).copier) }
 {
-    Ok(Copier::new(
-        plan.table().copy()?,
+    Copier::new(
+        alloc,
+        plan.table(),
         new_map(plan).copy()?,
         None,
         plan.options().chunk_size,
-    ))
+    )
 }
 
 fn new_applier(alloc: Global, plan: &Plan) -> Result<Applier, AllocError>
@@ -67,7 +68,7 @@ impl Work {
         let batch_tries = Tries::with_room(alloc, room)?;
         let attempt_tries = Tries::with_room(alloc, room)?;
         let table = plan.table().copy()?;
-        let copier = new_copier(plan)?;
+        let copier = new_copier(alloc, plan)?;
         match new_applier(alloc, plan) {
             Ok(applier) => Ok(Work {
                 copier,
