@@ -6,7 +6,8 @@ ghost use Rattle.sql_words.specs.Readings.{views, words_of};
 ghost use Rattle.sql_grammar.specs.Tokens.{token_of, words_or_none, cut_at, text_words};
 
 use crate::token::Token;
-use base_values::{Sequence, Text};
+use crate::token_text::TokenText;
+use base_values::Sequence;
 use sql_words::{Word, WordFault, words};
 use std::alloc::{AllocError, Global};
 
@@ -22,24 +23,21 @@ pub struct TextWords {
 fn token_of(alloc: Global, word: &Word<'_>) -> Result<Token, AllocError>
     ensures { IfOk result (λ token. token ≡ record { class = word.now.class; text = word.now.text.now }) }
 {
-    // A text that isn't shared: nothing copies a token, and this one takes memory once.
-    let mut text = Text::new(alloc);
-    text.push_str(word.text)?;
     Ok(Token {
         class: word.class,
-        text,
+        text: TokenText::new(alloc, word.text)?,
     })
 }
 
 fn tokens_of(alloc: Global, words: &[Word<'_>]) -> Result<Sequence<Token>, AllocError>
     ensures { IfOk result (λ tokens. tokens ≡ map token_of (views words.now)) }
 {
-    let mut tokens = Sequence::new(alloc);
+    let mut tokens = Vec::with_capacity(alloc, words.len())?;
     for word in words {
         let token = token_of(alloc, word)?;
         tokens.push(token)?;
     }
-    Ok(tokens)
+    Ok(Sequence::from_vec(tokens))
 }
 
 /// The words of the text before the place of its first fault.

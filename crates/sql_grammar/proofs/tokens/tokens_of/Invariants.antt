@@ -5,4 +5,4 @@ use Rattle.sql_grammar.proofs.tokens.tokens_of.Given as goal
 
 -- the words so far
 abbrev pub invariant-loop-word : goal.invariant-loop-word
-invariant-loop-word l = l.tokens ≡ map token_of (views (take l.word-index l.words))
+invariant-loop-word l = l.tokens.items ≡ map token_of (views (take l.word-index l.words))
