@@ -34,7 +34,9 @@ fn session_left(entry: &Entry) -> Option<u32>
     }
 }
 
-/// Whether the request that waits after a turn takes the table's name away, where the one before it did or didn't.
+/// Whether the request that waits after a turn takes the table's name away, where the one before it did or didn't. A RENAME is kept
+/// whole.
+#[tactic(auto, using(crate::proofs::AlterTurns::lost_renames))]
 pub(crate) fn renames_after(table: &Name, entry: &Entry, old: bool) -> bool
     ensures { result ≡ renames_after table.now entry.now.asked entry.now.answer old }
 {

@@ -1,9 +1,7 @@
 //! What the notes make of a turn. Nothing here takes memory.
 
-ghost use Rattle.std.specs.Prelude.{◌≡◌, ◌<◌, List};
-ghost use Rattle.base_values.specs.declared.value.Value as values;
-ghost use Rattle.tool_program.specs.NoteWriter.Notes.{new_notes, is_checkpoint, beaten, checked, row_written, noted};
-ghost use Rattle.tool_program.specs.NoteWriter.Notes as rows;
+ghost use Rattle.std.specs.Prelude.{◌≡◌, ◌<◌, if◌then◌else◌};
+ghost use Rattle.tool_program.specs.NoteWriter.Notes.{new_notes, is_checkpoint, beaten, checked, noted};
 
 use crate::note_writer::notes::{NoteStep, Notes};
 use base_script::{Actor, Statement};
@@ -68,7 +66,7 @@ impl Notes {
     /// Takes the answer to a row of a note, the checkpoint's or a heartbeat's.
     fn row_written(&mut self, is_checkpoint: bool, answer: &Answer)
         requires { self.old.begun < u32.MAX }
-        ensures { (row : List values.Value) → is_checkpoint ≡ rows.is_checkpoint row → self.new ≡ row_written row self.old answer.now }
+        ensures { self.new ≡ (if is_checkpoint then checked self.old answer.now else beaten self.old answer.now) }
     {
         if is_checkpoint {
             self.checked(answer);
@@ -78,7 +76,7 @@ impl Notes {
     }
 
     /// Takes one turn more. What the inspector writes by REPLACE is a note.
-    #[tactic(auto, using(crate::proofs::NoteWriter::LostNotes::unwritten), unfolding(crate::specs::NoteWriter::Notes::noted))]
+    #[tactic(auto, using(crate::proofs::NoteWriter::LostNotes::lost_note, crate::proofs::NoteWriter::LostNotes::lost_other), unfolding(crate::specs::NoteWriter::Notes::noted))]
     pub fn take(&mut self, entry: &Entry)
         requires begun { self.old.begun < u32.MAX }
         requires behind { self.old.behind < u64.MAX }
