@@ -1,4 +1,5 @@
 pub mod KeptRows
+pub mod MigratedTables
 pub mod PlanData
 pub mod PlanOptions
 pub mod PlanParts

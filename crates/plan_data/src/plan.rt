@@ -5,6 +5,7 @@ ghost use Rattle.table_store.specs.Databases.{database};
 ghost use Rattle.plan_data.specs.PlanData.{plan_altered};
 ghost use Rattle.plan_data.specs.PlanParts.{data_of};
 
+use crate::migrated_table::MigratedTable;
 use crate::options::Options;
 use crate::runs::ActorRuns;
 use base_script::{Commands, Loss, Script};
@@ -26,8 +27,8 @@ pub type Losses = Sequence<Loss>;
 /// What a plan says, part by part.
 #[derive(Drop)]
 pub struct PlanParts {
-    /// The name of the table to migrate.
-    pub table: Name,
+    /// The table to migrate.
+    pub table: MigratedTable,
     /// The clauses of the ALTER.
     pub alter: Clauses,
     /// The opening tables, in the plan's order.
@@ -98,6 +99,13 @@ impl Plan {
 
     /// The name of the table to migrate.
     pub fn table(&self) -> &Name
+        ensures { result.now ≡ self.now.table }
+    {
+        self.parts.table.name()
+    }
+
+    /// The table to migrate, with the names of the tool's tables.
+    pub fn migrated(&self) -> &MigratedTable
         ensures { result.now ≡ self.now.table }
     {
         &self.parts.table

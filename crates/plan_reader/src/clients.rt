@@ -8,9 +8,8 @@ ghost use Rattle.base_values.specs.Faults.{Answers};
 use crate::fault::{PlanFault, PlanRefusal};
 use crate::limits::{OPEN_SELECT_LIMIT, STATEMENT_LIMIT};
 use base_script::{Condition, Script, ScriptLine, ScriptWord, Shown, Statement};
-use base_values::tool_names::{ghost_name, log_name, old_name};
-use base_values::{Name, Names, Sequence, because};
-use plan_data::Scripts;
+use base_values::{Duplicate, Name, Names, Sequence, because};
+use plan_data::{MigratedTable, Scripts};
 use plan_keys::KeyRefusal;
 use sql_statement::read_script;
 use std::alloc::{AllocError, Global};
@@ -168,19 +167,23 @@ fn scripts_of(alloc: Global, tools: &[Name], texts: &[&str]) -> Result<Scripts, 
 }
 
 /// The names of the tool's tables.
-fn tool_names(alloc: Global, migrated: &Name) -> Result<Names, AllocError>
+fn tool_names(alloc: Global, migrated: &MigratedTable) -> Result<Names, AllocError>
     ensures { IfOk result (λ names. names ≡ tool_names migrated.now) }
 {
-    let new = ghost_name(alloc, migrated)?;
-    let log = log_name(alloc, migrated)?;
-    let old = old_name(alloc, migrated)?;
+    let new = migrated.ghost_name().copy()?;
+    let log = migrated.log_name().copy()?;
+    let old = migrated.old_name().copy()?;
     Ok(Sequence::from_vec(vec![in alloc; new, log, old]?))
 }
 
 /// The scripts of the clients whose texts these are. No line names one of the tables of the tool that migrates the table
 /// of this name.
 #[tactic(auto, unfolding(crate::specs::Clients::clients_of))]
-pub fn clients_of(alloc: Global, migrated: &Name, texts: &[&str]) -> Result<Scripts, PlanFault>
+pub fn clients_of(
+    alloc: Global,
+    migrated: &MigratedTable,
+    texts: &[&str],
+) -> Result<Scripts, PlanFault>
     ensures clients { Answers (λ scripts. scripts) result (clients_of migrated.now (map (λ text. text.now) texts.now)) }
     ensures each { IfOk result (λ scripts. length scripts ≡ length texts.now) }
 {

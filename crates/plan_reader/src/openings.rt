@@ -17,9 +17,8 @@ use crate::fault::{PlanFault, PlanRefusal};
 use crate::plan_tables::read_tables;
 use base_values::gho_schema::Schema;
 use base_values::row_conversion::Clauses;
-use base_values::tool_names::{ghost_name, old_name};
 use base_values::{Name, because};
-use plan_data::{AlteredSchema, Options};
+use plan_data::{AlteredSchema, MigratedTable, Options};
 use plan_keys::PlanKeys;
 use sql_alter::read_alter;
 use sql_change::altered;
@@ -66,16 +65,10 @@ fn migrated_in<'a>(migrated: &Name, tables: &'a Tables) -> Result<&'a Table, Pla
 }
 
 /// Whether a new table that an earlier run left exists, and may not be dropped.
-fn has_left_ghost(
-    alloc: Global,
-    migrated: &Name,
-    options: Options,
-    tables: &Tables,
-) -> Result<bool, AllocError>
-    ensures { IfOk result (λ left. left ≡ has_left_ghost migrated.now options (database tables.now)) }
+fn has_left_ghost(migrated: &MigratedTable, options: Options, tables: &Tables) -> bool
+    ensures { result ≡ has_left_ghost migrated.now options (database tables.now) }
 {
-    let new = ghost_name(alloc, migrated)?;
-    Ok(tables.stands(&new) && !options.initially_drop_ghost_table)
+    tables.stands(migrated.ghost_name()) && !options.initially_drop_ghost_table
 }
 
 /// Whether a table exists that is no earlier run's sentry.
@@ -91,30 +84,21 @@ fn is_no_sentry(table: Option<&Table>) -> bool
 }
 
 /// Whether an old table that an earlier run left exists, and may not be dropped.
-fn has_left_old(
-    alloc: Global,
-    migrated: &Name,
-    options: Options,
-    tables: &Tables,
-) -> Result<bool, AllocError>
-    ensures { IfOk result (λ left. left ≡ has_left_old migrated.now options (database tables.now)) }
+fn has_left_old(migrated: &MigratedTable, options: Options, tables: &Tables) -> bool
+    ensures { result ≡ has_left_old migrated.now options (database tables.now) }
 {
-    let old = old_name(alloc, migrated)?;
-    Ok(is_no_sentry(tables.find(&old)) && !options.initially_drop_old_table)
+    is_no_sentry(tables.find(migrated.old_name())) && !options.initially_drop_old_table
 }
 
 /// The tool may drop what an earlier run left.
 fn without_leftovers(
-    alloc: Global,
-    migrated: &Name,
+    migrated: &MigratedTable,
     options: Options,
     tables: &Tables,
 ) -> Result<(), PlanFault>
     ensures { Answers (λ _. database tables.now) result (without_leftovers migrated.now options (database tables.now)) }
 {
-    if has_left_ghost(alloc, migrated, options, tables)?
-        || has_left_old(alloc, migrated, options, tables)?
-    {
+    if has_left_ghost(migrated, options, tables) || has_left_old(migrated, options, tables) {
         return Err(PlanFault::Refused(PlanRefusal::Leftover));
     }
     Ok(())
@@ -152,16 +136,20 @@ fn altered_of(
 
 /// The opening of a plan. That schemas which are read are valid is a law: `law_texts::schemas` proves it.
 #[tactic(auto, unfolding(crate::specs::Openings::opening_of))]
-pub fn opening_of(alloc: Global, migrated: &Name, keys: &PlanKeys<'_>) -> Result<Opening, PlanFault>
+pub fn opening_of(
+    alloc: Global,
+    migrated: &MigratedTable,
+    keys: &PlanKeys<'_>,
+) -> Result<Opening, PlanFault>
     requires valid { ReadSchemasAreValid }
     requires named { migrated.now ≡ keys.now.texts.table.now }
     ensures opening { Answers opening_data result (opening_of (key_data keys.now)) }
     ensures sound { IfOk result (λ opening. AllByRecursion IsSound (database opening.tables)) }
 {
     let tables = tables_of(alloc, keys)?;
-    let table = migrated_in(migrated, &tables)?;
-    without_leftovers(alloc, migrated, keys.options, &tables)?;
-    let alter = clauses_of(alloc, keys.version, migrated, keys.texts.alter)?;
+    let table = migrated_in(migrated.name(), &tables)?;
+    without_leftovers(migrated, keys.options, &tables)?;
+    let alter = clauses_of(alloc, keys.version, migrated.name(), keys.texts.alter)?;
     let new = altered_of(alloc, keys.options, table.schema(), &alter)?;
     Ok(Opening { tables, alter, new })
 }

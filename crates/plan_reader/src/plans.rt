@@ -22,7 +22,7 @@ use crate::limits::PLAN_LIMIT;
 use crate::openings::opening_of;
 use crate::orders::{few_orders, orders_of};
 use base_values::{Name, because};
-use plan_data::{Plan, PlanParts};
+use plan_data::{MigratedTable, Plan, PlanParts};
 use plan_keys::{PlanKeys, keys_of};
 use std::alloc::Global;
 use toml::Table;
@@ -53,7 +53,7 @@ fn plan_at(alloc: Global, document: &Table) -> Result<Plan, PlanFault>
     ensures sound { IfOk result (λ plan. AllByRecursion IsSound plan.tables) }
 {
     let keys = keys_in(alloc, document)?;
-    let table = Name::new(alloc, keys.texts.table)?;
+    let table = MigratedTable::new(alloc, Name::new(alloc, keys.texts.table)?)?;
     let opening = opening_of(alloc, &table, &keys)?;
     let clients = clients_of(alloc, &table, keys.texts.clients.as_slice())?;
     let orders = orders_of(alloc, clients.len() as u32, &keys.texts)?;

@@ -7,9 +7,8 @@ ghost use Rattle.run_state.specs.Books.{free_actor_state, free_client, HasRoomFo
 
 use crate::run_state::RunState;
 use base_script::Actor;
-use base_values::tool_names::log_name;
-use base_values::{Duplicate, Name, Names, Sequence};
-use plan_data::Plan;
+use base_values::{Duplicate, Names, Sequence};
+use plan_data::{MigratedTable, Plan};
 use run_actors::client_turns::ClientState;
 use run_actors::{ActorState, actor_at, actor_count};
 use std::alloc::{AllocError, Global};
@@ -58,10 +57,10 @@ fn client_states(alloc: Global, plan: &Plan) -> Result<Vec<ClientState>, AllocEr
 }
 
 /// The tables whose events the applier reads.
-fn names_of(alloc: Global, table: &Name) -> Result<Names, AllocError>
+fn names_of(alloc: Global, table: &MigratedTable) -> Result<Names, AllocError>
     ensures { IfOk result (λ names. names ≡ table.now ∷ log_name table.now ∷ []) }
 {
-    Ok(Sequence::from_vec(vec![in alloc; table.copy()?, log_name(alloc, table)?]?))
+    Ok(Sequence::from_vec(vec![in alloc; table.name().copy()?, table.log_name().copy()?]?))
 }
 
 impl<'a> RunState<'a> {
@@ -77,7 +76,7 @@ impl<'a> RunState<'a> {
             journal: Vec::with_capacity(alloc, plan.options().turn_limit as usize)?,
             tool: Tool::new(alloc, plan)?,
             notes: Notes::new(),
-            names: names_of(alloc, plan.table())?,
+            names: names_of(alloc, plan.migrated())?,
             actor_states: actor_states_of(alloc, plan)?,
             clients: client_states(alloc, plan)?,
             load: 0,

@@ -10,7 +10,6 @@ ghost use Rattle.run_turns.specs.Replicas.{IsReplicaOf};
 use crate::actors::{actor_at, actor_count};
 use crate::run::Run;
 use base_script::Actor;
-use base_values::tool_names::log_name;
 use base_values::{Duplicate, Names, Sequence};
 use plan_data::Plan;
 use server_api::Serve;
@@ -35,10 +34,13 @@ impl Replica {
         ensures of { IfOk result (λ replica. IsReplicaOf plan.now replica) }
         ensures empty { IfOk result (λ replica. replica.held ≡ 0) }
     {
-        let table = plan.table();
+        let table = plan.migrated();
         Ok(Replica {
-            read: Sequence::from_vec(vec![in alloc; table.copy()?, log_name(alloc, table)?]?),
-            log: Sequence::from_vec(vec![in alloc; log_name(alloc, table)?]?),
+            read: Sequence::from_vec(vec![in alloc;
+                table.name().copy()?,
+                table.log_name().copy()?,
+            ]?),
+            log: Sequence::from_vec(vec![in alloc; table.log_name().copy()?]?),
             held: 0,
         })
     }

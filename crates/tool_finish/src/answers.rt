@@ -46,28 +46,22 @@ fn range_from(reach: &Reach, range: &Option<KeyRange>) -> Result<Option<CopyRang
     }))
 }
 
-fn copier_from(
-    alloc: Global,
-    plan: &Plan,
-    reach: &Reach,
-    range: &Option<KeyRange>,
-) -> Result<Copier, AllocError>
+fn copier_from(plan: &Plan, reach: &Reach, range: &Option<KeyRange>) -> Result<Copier, AllocError>
     ensures { IfOk result (λ copier. copier ≡ copier_from plan.now reach.now range.now) }
 {
-    Copier::new(
-        alloc,
-        plan.table(),
+    Ok(Copier::new(
+        plan.migrated().copy()?,
         new_map(plan).copy()?,
         range_from(reach, range)?,
         plan.options().chunk_size,
-    )
+    ))
 }
 
 fn applier_from(alloc: Global, plan: &Plan, position: u64) -> Result<Applier, AllocError>
     ensures { IfOk result (λ applier. applier ≡ applier_from plan.now position) }
 {
     Ok(Applier::new(
-        plan.table().copy()?,
+        plan.migrated().copy()?,
         new_table(alloc, plan)?,
         new_map(plan).copy()?,
         position,
@@ -202,7 +196,7 @@ fn ranged<V: Serve>(
     ensures stage { IfOk result (λ stage. stage ≡ ranged view.now.plan.now (V.state view.now.server.now) found.now (Ends range.now)) }
 {
     let applier = applier_from(alloc, view.plan, found.position)?;
-    match copier_from(alloc, view.plan, &found.reach, range) {
+    match copier_from(view.plan, &found.reach, range) {
         Ok(copier) => Ok(copying(view, copier, applier)),
         Err(error) => {
             // By a call, so that its drop isn't proved part by part here.

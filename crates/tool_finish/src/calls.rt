@@ -6,7 +6,6 @@ ghost use Rattle.tool_finish.specs.Finishes.{first_live, calls, cuts, reads_chec
 use crate::stage::{Stage, UnfitRow};
 use crate::view::FinishView;
 use base_script::{Actor, Condition, Set, Shown, Statement};
-use base_values::tool_names::{ghost_name, log_name, old_name};
 use base_values::{Duplicate, Name, Sequence, Value};
 use plan_data::Plan;
 use server_api::Serve;
@@ -41,7 +40,7 @@ fn reads_checkpoint(alloc: Global, plan: &Plan) -> Result<Request, AllocError>
         value: Value::Num(0),
     };
     Ok(Request::Do(Statement::Select {
-        table: log_name(alloc, plan.table())?,
+        table: plan.migrated().log_name().copy()?,
         shown: Shown::All,
         condition: Condition::Equal(Sequence::from_vec(vec![in alloc; id]?)),
     }))
@@ -68,30 +67,33 @@ impl Stage {
         requires { view.now.live ≡ first_live view.now.plan.now view.now.journal.now }
         ensures { IfOk result (λ asking. asking ≡ next view.now.plan.now view.now.journal.now self.now) }
     {
-        let table = view.plan.table();
+        let table = view.plan.migrated();
         Ok(match self {
             Stage::Losing => cuts(view.live),
             Stage::Listing => calls(Actor::Insp, Request::ShowTables),
             Stage::Reading(_) => calls(Actor::Insp, reads_checkpoint(alloc, view.plan)?),
             Stage::Clearing(_) | Stage::DroppingOld => {
-                calls(Actor::Insp, Request::Drop(old_name(alloc, table)?))
+                calls(Actor::Insp, Request::Drop(table.old_name().copy()?))
             }
-            Stage::ReadingCounter(_) => calls(Actor::Insp, Request::ShowCounter(table.copy()?)),
+            Stage::ReadingCounter(_) => calls(
+                Actor::Insp,
+                Request::ShowCounter(table.name().copy()?),
+            ),
             Stage::SettingCounter(_, number) => calls(
                 Actor::Insp,
                 Request::SetCounter {
-                    table: ghost_name(alloc, table)?,
+                    table: table.ghost_name().copy()?,
                     number: *number,
                 },
             ),
-            Stage::Ranging(_) => calls(Actor::Insp, Request::Ends(table.copy()?)),
+            Stage::Ranging(_) => calls(Actor::Insp, Request::Ends(table.name().copy()?)),
             Stage::Copying(copier, _) => match copier.next_call(view.journal) {
                 Some(call) => calls(Actor::Copy, copier.request(alloc, view.journal, call)?),
                 None => None,
             },
             Stage::Applying(applier) => calls(Actor::Apply, applier.next(alloc, view.journal)?),
             Stage::Exchanging => calls(Actor::Ren, exchange(alloc, table)?),
-            Stage::DroppingLog(_) => calls(Actor::Insp, Request::Drop(log_name(alloc, table)?)),
+            Stage::DroppingLog(_) => calls(Actor::Insp, Request::Drop(table.log_name().copy()?)),
             Stage::RollingBack(row) => calls(rolls_back(row), Request::Rollback),
             Stage::Done | Stage::Reverted(_) => None,
         })

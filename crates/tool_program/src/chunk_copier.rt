@@ -3,7 +3,6 @@
 mod answers;
 mod calls;
 mod copier;
-mod migrated_table;
 mod reach;
 mod reader;
 

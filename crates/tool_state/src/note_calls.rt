@@ -58,7 +58,7 @@ pub(crate) fn note(
 ) -> Result<Request, AllocError>
     ensures { IfOk result (λ request. request ≡ asked_in plan.now (checkpoint_in journal.now (work_of work.now)) row) }
 {
-    writes(alloc, plan.table(), note_values(alloc, journal, work, row)?)
+    writes(plan.migrated(), note_values(alloc, journal, work, row)?)
 }
 
 /// What a journal keeps of a row of a note that is lost before it is written: a checkpoint's row begins with 0.

@@ -1,15 +1,14 @@
 //! What the copier makes of an answer. Nothing here takes memory.
 
-ghost use Rattle.std.specs.Prelude.{◌≡◌, ◌+◌, ◌<◌, ◌≤◌, IfOk};
+ghost use Rattle.std.specs.Prelude.{◌≡◌, ◌+◌, ◌<◌, ◌≤◌};
 ghost use Rattle.tool_program.specs.ChunkCopier.Copiers.{new_copier, begun, after_copies, is_top, committed, took, progress, resized};
 ghost use Rattle.tool_program.specs.ChunkCopier.CopierFacts.{StepFits};
 
 use crate::chunk_copier::copier::{Chunk, Copier, CopyRange, CopyStep};
-use crate::chunk_copier::migrated_table::MigratedTable;
+use base_values::Key;
 use base_values::row_conversion::ColumnMap;
-use base_values::{Key, Name};
+use plan_data::MigratedTable;
 use server_model::{Answer, Progress};
-use std::alloc::{AllocError, Global};
 
 fn is_top(range: &Option<CopyRange>, key: &Key) -> bool
     ensures { result ≡ is_top range.now key.now }
@@ -43,20 +42,14 @@ fn after_copies(chunk: Chunk, copied: usize) -> CopyStep
 }
 
 impl Copier {
-    /// A copier of a range of the table of this name, at its start.
-    pub fn new(
-        alloc: Global,
-        table: &Name,
-        map: ColumnMap,
-        range: Option<CopyRange>,
-        size: u32,
-    ) -> Result<Copier, AllocError>
-        ensures made { IfOk result (λ copier. copier ≡ new_copier table.now map range size) }
-        ensures fits { IfOk result (λ copier. StepFits copier.step) }
+    /// A copier of a range, at its start.
+    pub fn new(table: MigratedTable, map: ColumnMap, range: Option<CopyRange>, size: u32) -> Copier
+        ensures made { result ≡ new_copier table map range size }
+        ensures fits { StepFits result.step }
     {
         let is_copied = range.is_none();
-        Ok(Copier {
-            table: MigratedTable::new(alloc, table)?,
+        Copier {
+            table,
             map,
             range,
             size,
@@ -64,7 +57,7 @@ impl Copier {
             following: None,
             is_copied,
             step: CopyStep::Choosing,
-        })
+        }
     }
 
     /// Takes the answer that a call got in this turn. A chunk whose session was lost or whose wait timed out begins

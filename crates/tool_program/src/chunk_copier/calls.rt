@@ -142,7 +142,7 @@ impl Copier {
             },
             CopyCall::Row(key) => Request::CopyRow {
                 from: self.table.name().copy()?,
-                into: self.table.new_name().copy()?,
+                into: self.table.ghost_name().copy()?,
                 map: self.map.copy()?,
                 key: key.copy()?,
             },

@@ -1,8 +1,8 @@
 //! How far the copier is.
 
-use crate::chunk_copier::migrated_table::MigratedTable;
 use base_values::row_conversion::ColumnMap;
 use base_values::{Bound, Key};
+use plan_data::MigratedTable;
 
 /// A chunk that was begun.
 #[derive(Clone, Copy)]

@@ -10,12 +10,17 @@ use crate::cutover_core::stages::{
     drain_of, finishing, hold_after, inspector_stage, is_bad, is_wait, locker_phase, renamer_phase,
     task_of, with_drain,
 };
-use base_values::Name;
+use plan_data::MigratedTable;
 use server_model::{Answer, Progress, TableNames};
 
 impl CutOver {
     /// A cut-over at its start.
-    pub fn new(table: Name, drain_limit: u32, drops_old: bool, has_counter: bool) -> CutOver
+    pub fn new(
+        table: MigratedTable,
+        drain_limit: u32,
+        drops_old: bool,
+        has_counter: bool,
+    ) -> CutOver
         ensures { result ≡ new_cutover table drain_limit drops_old has_counter }
     {
         CutOver {
@@ -36,9 +41,9 @@ impl CutOver {
         ensures { result ≡ left_at_end self.now tables.now }
     {
         Leftovers {
-            log: lists_log(&self.table, tables),
+            log: lists_log(self.table.name(), tables),
             new_table: false,
-            old: self.drops_old && lists_old_table(&self.table, tables),
+            old: self.drops_old && lists_old_table(self.table.name(), tables),
         }
     }
 
@@ -46,9 +51,9 @@ impl CutOver {
     fn seen(&self, tables: &TableNames) -> Phase
         ensures { result ≡ seen self.now tables.now }
     {
-        if !lists_new_table(&self.table, tables) {
+        if !lists_new_table(self.table.name(), tables) {
             finishing(self.left_at_end(tables))
-        } else if lists_sentry(&self.table, tables) {
+        } else if lists_sentry(self.table.name(), tables) {
             Phase::Ending(Clearing::Drops(Leftovers {
                 log: false,
                 new_table: false,

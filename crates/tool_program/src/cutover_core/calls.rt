@@ -11,8 +11,8 @@ ghost use Rattle.tool_program.specs.CutoverCore.CutOverCalls.{asked_in};
 
 use crate::cutover_core::cutover::{Clearing, CutOver, Hold, Leftovers, Phase, Role, Stage};
 use base_script::Statement;
-use base_values::tool_names::{ghost_name, log_name, old_name};
-use base_values::{Duplicate, Name, Sequence};
+use base_values::{Duplicate, Sequence};
+use plan_data::MigratedTable;
 use server_model::{LostCall, Request};
 use std::alloc::{AllocError, Global};
 use table_store::Pair;
@@ -66,34 +66,34 @@ impl CutOverCall {
 }
 
 /// The table and the sentry's name are locked.
-fn locks(alloc: Global, table: &Name) -> Result<Request, AllocError>
+fn locks(alloc: Global, table: &MigratedTable) -> Result<Request, AllocError>
     ensures { IfOk result (λ request. request ≡ LockTables (table.now ∷ old_name table.now ∷ [])) }
 {
-    let names = vec![in alloc; table.copy()?, old_name(alloc, table)?]?;
+    let names = vec![in alloc; table.name().copy()?, table.old_name().copy()?]?;
     Ok(Request::LockTables(Sequence::from_vec(names)))
 }
 
 /// The two tables exchanged as one.
-pub fn exchange(alloc: Global, table: &Name) -> Result<Request, AllocError>
+pub fn exchange(alloc: Global, table: &MigratedTable) -> Result<Request, AllocError>
     ensures { IfOk result (λ request. request ≡ exchange table.now) }
 {
     let away = Pair {
-        old: table.copy()?,
-        new: old_name(alloc, table)?,
+        old: table.name().copy()?,
+        new: table.old_name().copy()?,
     };
     let into_place = Pair {
-        old: ghost_name(alloc, table)?,
-        new: table.copy()?,
+        old: table.ghost_name().copy()?,
+        new: table.name().copy()?,
     };
     Ok(Request::Rename(Sequence::from_vec(vec![in alloc; away, into_place]?)))
 }
 
 /// The hint row of an attempt is written.
-fn writes_hint(alloc: Global, table: &Name, attempt: u64) -> Result<Request, AllocError>
+fn writes_hint(alloc: Global, table: &MigratedTable, attempt: u64) -> Result<Request, AllocError>
     ensures { IfOk result (λ request. request ≡ writes_hint table.now attempt) }
 {
     Ok(Request::Do(Statement::Insert {
-        table: log_name(alloc, table)?,
+        table: table.log_name().copy()?,
         columns: None,
         values: hint_row(alloc, attempt)?,
         drawn: None,
@@ -174,20 +174,20 @@ impl CutOver {
     {
         let table = &self.table;
         match call {
-            CutOverCall::MakeSentry => Ok(Request::Create(sentry_schema(alloc, table)?)),
+            CutOverCall::MakeSentry => Ok(Request::Create(sentry_schema(alloc, table.name())?)),
             CutOverCall::Lock => locks(alloc, table),
             CutOverCall::WriteHint => writes_hint(alloc, table, self.attempts),
-            CutOverCall::ShowCounter => Ok(Request::ShowCounter(table.copy()?)),
+            CutOverCall::ShowCounter => Ok(Request::ShowCounter(table.name().copy()?)),
             CutOverCall::SetCounter(number) => Ok(Request::SetCounter {
-                table: ghost_name(alloc, table)?,
+                table: table.ghost_name().copy()?,
                 number,
             }),
             CutOverCall::Exchange => exchange(alloc, table),
             CutOverCall::ShowWaiting => Ok(Request::ShowWaiting),
-            CutOverCall::DropSentry => Ok(Request::Drop(old_name(alloc, table)?)),
+            CutOverCall::DropSentry => Ok(Request::Drop(table.old_name().copy()?)),
             CutOverCall::Unlock => Ok(Request::Unlock),
             CutOverCall::ShowTables => Ok(Request::ShowTables),
-            CutOverCall::DropFirst(left) => Ok(Request::Drop(left.first_name(alloc, table)?)),
+            CutOverCall::DropFirst(left) => Ok(Request::Drop(left.first_name(table).copy()?)),
         }
     }
 }

@@ -1,6 +1,6 @@
 //! How far the cut-over is.
 
-use base_values::Name;
+use plan_data::MigratedTable;
 
 /// Which of the tool's three takes part.
 #[derive(Clone, Copy)]
@@ -107,7 +107,7 @@ pub enum Hold {
 #[derive(Drop)]
 pub struct CutOver {
     /// The migrated table.
-    pub table: Name,
+    pub table: MigratedTable,
     /// In how many turns the applier must pass the hint row.
     pub drain_limit: u32,
     /// Whether the old table is dropped at the end.

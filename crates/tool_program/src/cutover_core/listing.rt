@@ -1,16 +1,14 @@
 //! Which of the tool's tables exist, and which of them are still to be dropped.
 
-ghost use Rattle.std.specs.Prelude.{◌≡◌, IfOk};
+ghost use Rattle.std.specs.Prelude.{◌≡◌};
 ghost use Rattle.base_values.specs.ToolNames.{ghost_name, log_name, old_name};
 ghost use Rattle.tool_program.specs.CutoverCore.Attempts.{is_clear, first_name, without_first, has_name, has_sentry};
 
 use crate::cutover_core::cutover::Leftovers;
 use base_values::Name;
-use base_values::tool_names::{
-    ghost_name, is_ghost_name, is_log_name, is_old_name, log_name, old_name,
-};
+use base_values::tool_names::{is_ghost_name, is_log_name, is_old_name};
+use plan_data::MigratedTable;
 use server_model::TableNames;
-use std::alloc::{AllocError, Global};
 use tool_changelog::SENTRY_COMMENT;
 
 /// Whether the new table is listed, by the name that it has before the RENAME.
@@ -60,15 +58,15 @@ impl Leftovers {
     }
 
     /// The name of the one that is dropped next: the changelog, then the new table, then the old one or the sentry.
-    pub fn first_name(self, alloc: Global, table: &Name) -> Result<Name, AllocError>
-        ensures { IfOk result (λ name. name ≡ first_name table.now self) }
+    pub fn first_name(self, table: &MigratedTable) -> &Name
+        ensures { result.now ≡ first_name table.now self }
     {
         if self.log {
-            log_name(alloc, table)
+            table.log_name()
         } else if self.new_table {
-            ghost_name(alloc, table)
+            table.ghost_name()
         } else {
-            old_name(alloc, table)
+            table.old_name()
         }
     }
 

@@ -5,10 +5,11 @@ ghost use Rattle.tool_program.specs.EventApplier.Appliers.{new_applier, batch_of
 ghost use Rattle.tool_program.specs.EventApplier.BatchPlans.{StepFits};
 
 use crate::event_applier::applier::{Applier, ApplyStep, Batch, Part};
+use base_values::RowEvent;
 use base_values::gho_schema::Schema;
 use base_values::mysql_errors::ER_DUP_ENTRY;
 use base_values::row_conversion::ColumnMap;
-use base_values::{Name, RowEvent};
+use plan_data::MigratedTable;
 use server_model::{Answer, Progress};
 use tool_changelog::last_hint;
 
@@ -57,7 +58,7 @@ fn after_refusal(batch: Batch, done: usize, part: Part, number: u16) -> ApplySte
 impl Applier {
     /// An applier at its start, after this many logged events.
     pub fn new(
-        table: Name,
+        table: MigratedTable,
         new_schema: Schema,
         map: ColumnMap,
         position: u64,
@@ -83,7 +84,7 @@ impl Applier {
         Batch {
             read: turn,
             next,
-            hint: last_hint(&self.table, self.hint, events),
+            hint: last_hint(self.table.name(), self.hint, events),
             statements: self.count_planned(events),
         }
     }

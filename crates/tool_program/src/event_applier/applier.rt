@@ -1,8 +1,8 @@
 //! How far the applier is.
 
-use base_values::Name;
 use base_values::gho_schema::Schema;
 use base_values::row_conversion::ColumnMap;
+use plan_data::MigratedTable;
 
 /// How an event's statement goes.
 #[derive(Clone, Copy)]
@@ -52,7 +52,7 @@ pub enum ApplyStep {
 #[derive(Drop)]
 pub struct Applier {
     /// The migrated table.
-    pub table: Name,
+    pub table: MigratedTable,
     /// The schema of the new table, under its name.
     pub new_schema: Schema,
     /// Where the values of the new columns come from.

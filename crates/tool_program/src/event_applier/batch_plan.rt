@@ -108,7 +108,7 @@ impl Applier {
         ensures counted { result ≡ length (event_doings self.now event.now) }
         ensures few { result ≤ 2 }
     {
-        if event.table == self.table {
+        if event.table == *self.table.name() {
             self.count_of(&event.change)
         } else {
             0
@@ -157,7 +157,7 @@ impl Applier {
     fn planned_in<'a>(&self, event: &'a RowEvent, number: usize) -> Option<Planned<'a>>
         ensures { option_map meant result ≡ slice_get (event_doings self.now event.now) number }
     {
-        if event.table == self.table {
+        if event.table == *self.table.name() {
             self.planned_of(&event.change, number)
         } else {
             None

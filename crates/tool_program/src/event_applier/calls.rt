@@ -9,7 +9,6 @@ ghost use Rattle.tool_program.specs.EventApplier.Appliers.{starts, statement_res
 
 use crate::event_applier::applier::{Applier, ApplyStep};
 use crate::event_applier::batch_plan::row_done;
-use base_values::tool_names::log_name;
 use base_values::{Duplicate, Sequence, Value};
 use server_model::{Entry, LostCall, Request};
 use std::alloc::{AllocError, Global};
@@ -26,7 +25,7 @@ impl Applier {
     fn reads(&self, alloc: Global) -> Result<Request, AllocError>
         ensures { IfOk result (λ request. request ≡ requests.ReadLog self.now.position self.now.batch (self.now.table ∷ log_name self.now.table ∷ [])) }
     {
-        let tables = vec![in alloc; self.table.copy()?, log_name(alloc, &self.table)?]?;
+        let tables = vec![in alloc; self.table.name().copy()?, self.table.log_name().copy()?]?;
         Ok(Request::ReadLog {
             position: self.position,
             limit: self.batch,

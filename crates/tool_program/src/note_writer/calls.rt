@@ -7,18 +7,17 @@ ghost use Rattle.tool_program.specs.NoteWriter.NoteRows.{is_checking, asked_in};
 
 use crate::note_writer::notes::{NoteRow, NoteStep, Notes};
 use base_script::Statement;
-use base_values::tool_names::log_name;
-use base_values::{Name, Row};
-use plan_data::{Options, Plan};
+use base_values::{Duplicate, Row};
+use plan_data::{MigratedTable, Options, Plan};
 use server_model::Request;
 use std::alloc::{AllocError, Global};
 
 /// The row is written into the changelog.
-pub fn writes(alloc: Global, table: &Name, row: Row) -> Result<Request, AllocError>
+pub fn writes(table: &MigratedTable, row: Row) -> Result<Request, AllocError>
     ensures { IfOk result (λ request. request ≡ writes table.now row) }
 {
     Ok(Request::Do(Statement::Replace {
-        table: log_name(alloc, table)?,
+        table: table.log_name().copy()?,
         columns: None,
         values: row,
         drawn: None,

@@ -7,7 +7,6 @@ ghost use Rattle.base_values.specs.ToolNames.{ghost_name};
 use base_values::Duplicate;
 use base_values::gho_schema::Schema;
 use base_values::row_conversion::ColumnMap;
-use base_values::tool_names::ghost_name;
 use plan_data::Plan;
 use server_model::auto_place;
 use std::alloc::{AllocError, Global};
@@ -37,7 +36,7 @@ pub fn new_table(alloc: Global, plan: &Plan) -> Result<Schema, AllocError>
 {
     let altered = &plan.altered().schema;
     Ok(Schema {
-        name: ghost_name(alloc, plan.table())?,
+        name: plan.migrated().ghost_name().copy()?,
         columns: altered.columns.copy()?,
         uniques: altered.uniques.copy()?,
         indexes: altered.indexes.copy()?,

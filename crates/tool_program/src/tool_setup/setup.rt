@@ -70,7 +70,7 @@ impl Setup {
     {
         Ok(match self {
             Setup::Listing => Request::ShowTables,
-            Setup::Clearing(left) => Request::Drop(left.first_name(alloc, plan.table())?),
+            Setup::Clearing(left) => Request::Drop(left.first_name(plan.migrated()).copy()?),
             Setup::MakingLog => Request::Create(log_schema(alloc, plan.table())?),
             Setup::MakingGhost => Request::Create(new_table(alloc, plan)?),
             Setup::Marking => Request::LogEnd,

@@ -30,23 +30,22 @@ fn copy_range(range: Option<KeyRange>) -> Option<CopyRange>
     }
 }
 
-fn new_copier(alloc: Global, plan: &Plan) -> Result<Copier, AllocError>
+fn new_copier(plan: &Plan) -> Result<Copier, AllocError>
     ensures { IfOk result (λ copier. copier ≡ (new_work plan.now plan.now.options.chunk_size 0 None).copier) }
 {
-    Copier::new(
-        alloc,
-        plan.table(),
+    Ok(Copier::new(
+        plan.migrated().copy()?,
         new_map(plan).copy()?,
         None,
         plan.options().chunk_size,
-    )
+    ))
 }
 
 fn new_applier(alloc: Global, plan: &Plan) -> Result<Applier, AllocError>
     ensures { IfOk result (λ applier. applier ≡ (new_work plan.now plan.now.options.chunk_size 0 None).applier) }
 {
     Ok(Applier::new(
-        plan.table().copy()?,
+        plan.migrated().copy()?,
         new_table(alloc, plan)?,
         new_map(plan).copy()?,
         0,
@@ -67,8 +66,8 @@ impl Work {
         let chunk_tries = Tries::with_room(alloc, room)?;
         let batch_tries = Tries::with_room(alloc, room)?;
         let attempt_tries = Tries::with_room(alloc, room)?;
-        let table = plan.table().copy()?;
-        let copier = new_copier(alloc, plan)?;
+        let table = plan.migrated().copy()?;
+        let copier = new_copier(plan)?;
         match new_applier(alloc, plan) {
             Ok(applier) => Ok(Work {
                 copier,

@@ -8,7 +8,6 @@ ghost use Rattle.tool_program.specs.JournalWords.Journals.{opening};
 ghost use Rattle.base_values.specs.ToolNames.{log_name};
 ghost use Rattle.proof_plans.specs.ReadPlans.Laws.{WasRead};
 
-use base_values::tool_names::log_name;
 use base_values::{Duplicate, Names, Sequence};
 use law_journals::plans::{read_options_allow, read_plans_are_serial};
 use plan_data::Plan;
@@ -32,8 +31,8 @@ fn limits_of(plan: &Plan) -> Limits
 fn watched_in(alloc: Global, plan: &Plan) -> Result<Names, AllocError>
     ensures { IfOk result (λ watched. watched ≡ plan.now.table ∷ log_name plan.now.table ∷ []) }
 {
-    let table = plan.table();
-    Ok(Sequence::from_vec(vec![in alloc; table.copy()?, log_name(alloc, table)?]?))
+    let table = plan.migrated();
+    Ok(Sequence::from_vec(vec![in alloc; table.name().copy()?, table.log_name().copy()?]?))
 }
 
 /// Reads the tables' names: that each is a `str` says to the prover that it is UTF-8, and so has at most four bytes a character.
