@@ -93,11 +93,11 @@ live_changed number change sessions other numbers live = at (other == number) re
 pub owned_none : AreOwned 0 [] []
 owned_none = record { within = tt; differ = tt; live = λ lock has. absurd has }
 
--- one session more
 -- a number more is used up
 pub owned_passed : (made : ℕ) (sessions : List Session) (held : List HeldLock) → AreOwned made sessions held → AreOwned (made + 1) sessions held
 owned_passed made sessions held owned = record { within = within_more made sessions owned.within; differ = owned.differ; live = owned.live }
 
+-- one session more
 pub owned_joined : (made : ℕ) (is_tool : Bool) (sessions : List Session) (held : List HeldLock) → AreOwned made sessions held → AreOwned (made + 1) (sessions ++ new_session (made + 1) is_tool ∷ []) held
 owned_joined made is_tool sessions held owned =
     let own : made + 1 ≤ made + 1 = omega arith in
