@@ -1,7 +1,7 @@
 //! The turns.
 
 ghost use Rattle.std.specs.Prelude.{◌≡◌, ◌<◌, ◌^◌, [], ◌++◌, IfOk, IfSome, OnOk};
-ghost use Rattle.server_model.specs.Entries.{is_cut, same_actor};
+ghost use Rattle.server_model.specs.Entries.{same_actor};
 ghost use Rattle.top_report.specs.Turns.{actor_word, order_text, run_text, runs_of, times_text, turns_taken, turns_text};
 ghost use Rattle.top_report.specs.Runs.{open_after, printed_at, printed_before, run_with, runs_open, spaced_run};
 
