@@ -1,5 +1,6 @@
 -- What a journal keeps of calls of the tool that are lost before they are done.
-use Rattle.std.proofs.Common.{◌≡◌, ℕ, ◌+◌, Bool, true, false, List, [], ◌∷◌, Option, Some, None, refl, ap, arith}
+use Rattle.std.proofs.Common.{◌≡◌, ℕ, ◌+◌, ◌==◌, Bool, true, false, List, [], ◌∷◌, Option, Some, None, refl, sym, ap, arith}
+use Rattle.std.proofs.lemmas.Bool.Decides.{nat_tests}
 use Rattle.std.specs.Prelude.{is_some, unwrap_or}
 use Rattle.base_values.specs.declared.value.Value.{Value}
 use Rattle.server_model.specs.declared.lost_calls.LostCall.TheVariants.{Replace, Other}
@@ -26,7 +27,7 @@ lost_setup plan (Reaching position) = refl
 -- a heartbeat's number is a million at least
 pub lost_heartbeat : (plan : PlanData) (checkpoint : Option (List Value)) (number : ℕ) → Some (Replace false) ≡ lost_of (asked_in plan checkpoint (Heartbeat number))
 unfolding heartbeat_row
-lost_heartbeat plan checkpoint number = refl
+lost_heartbeat plan checkpoint number = let some : (1000000 + number == 0) ≡ false = grind (arith, nat_tests) in ap (λ (b : Bool). Some (Replace b)) (sym some)
 
 short_zero : (value : Option Value) (position : ℕ) (reach : Reach) → checkpoint_value position reach ≡ value → is_some value ≡ begins_with_zero (unwrap_or (checkpoint_row position reach) [])
 unfolding checkpoint_row
