@@ -1,5 +1,5 @@
 -- The trace of a whole journal is audited yes.
-use Rattle.std.proofs.Common.{◌≡◌, ◌≢◌, ℕ, ◌+◌, ◌-◌, ◌≤◌, ◌<◌, ◌==◌, ◌&&◌, ◌||◌, Bool, true, false, not, cond, List, [], ◌∷◌, ◌++◌, length, take, drop, map, Option, Some, None, refl, sym, ap, ◌∙◌, subst, append_assoc, arith, suc}
+use Rattle.std.proofs.Common.{◌≡◌, ◌≢◌, ℕ, ◌+◌, ◌-◌, ◌≤◌, ◌<◌, ◌&&◌, ◌||◌, Bool, true, false, not, cond, List, [], ◌∷◌, ◌++◌, length, take, drop, map, Option, Some, None, refl, sym, ap, ◌∙◌, subst, append_assoc, arith, suc}
 use Rattle.std.specs.Prelude.{count_by, is_some, min, nat_lt}
 use Rattle.std.specs.List.{list_any, slice_get}
 use Rattle.std.proofs.lemmas.Bool.Decides.{nat_tests}
@@ -33,6 +33,7 @@ use Rattle.proof_journals.specs.Run.Kept.{IsKept}
 use Rattle.proof_journals.proofs.Ghost.Turns.{along_next}
 use Rattle.tool_finish.specs.Finishes.{finish_verdict}
 use Rattle.tool_finish.specs.WholeJournals.{finish_in, run_in, verdict_at}
+use Rattle.run_judge.proofs.SeenTurns.{altered_more}
 use Rattle.run_audit.specs.declared.trace.Audit.TheVariants as audits
 use Rattle.run_audit.specs.declared.line.TraceLine.{TraceLine}
 use Rattle.run_audit.specs.Audits.{Altered, audited, cause_holds, first_draws, first_no, first_other, item_of, judged, judged_in, least, may_draw, misdrawn_turns, misdraws, opening_tables, tables_reached, unended, verdict_holds, wrong_turns}
@@ -54,20 +55,6 @@ use Rattle.proof_audit.proofs.Serials.{are_serial, whole_prefixes}
 use Rattle.proof_audit.proofs.Whole.{so_may}
 
 -- ---- the ALTER
-
-never_zero : (n : ℕ) → (suc n == 0) ≡ false
-never_zero n = grind (arith, nat_tests)
-
-counted_more : (turns : List ℕ) (b : Bool) (lines : List TraceLine) → not (length (turns ++ turn_if b lines) == 0) ≡ (not (length turns == 0) || b)
-counted_more [] true lines = refl
-counted_more [] false lines = refl
-counted_more (turn ∷ turns) b lines = ap not (never_zero (length (turns ++ turn_if b lines))) ∙ sym (ap (λ (none : Bool). not none || b) (never_zero (length turns)))
-
-altered_more : (lines : List TraceLine) (line : TraceLine) → has_altered (lines ++ line ∷ []) ≡ (has_altered lines || alters_in lines line)
-unfolding alter_turns
-altered_more lines line =
-    ap (λ (turns : List ℕ). not (length turns == 0)) (gathered-more (λ before one. turn_if (alters_in before one) before) [] lines line)
-    ∙ counted_more (gathered (λ before one. turn_if (alters_in before one) before) [] lines) (alters_in lines line) lines
 
 altered_is : (plan : PlanData) (journal : List Entry) → LinesTellAlters plan → IsWhole plan journal → has_altered (lines_of journal) ≡ list_any is_alter (history plan journal)
 unfolding history alter_turns

@@ -62,9 +62,6 @@ no_turn true false true turns is = refl
 no_turn false n true turns is = refl
 no_turn u n false turns is = absurd cc
 
-no_verdict : (n a : Bool) (turns : List ℕ) → cond (not (is_unfinished verdicts.Unfinished) && n && not a) turns [] ≡ []
-no_verdict n a turns = refl
-
 ended_here : (plan : PlanData) (journal : List Entry) (ended : Bool) → has_ended plan journal ≡ ended → ScriptsFit plan → IsWhole plan journal
     → cond (not (is_unfinished (cond ended (ended_so plan journal (moment plan journal).tool) verdicts.Unfinished)) && not (nat_lt plan.options.turn_limit (length (lines_of journal))) && not (all_are_over plan (lines_of journal) 1 plan.clients)) (next_turn (lines_of journal) ∷ []) [] ≡ []
 unfolding has_ended
@@ -110,9 +107,6 @@ lines_end plan journal fit whole = by (finish_in plan journal) refl where
       (past_so plan.options.turn_limit (length (lines_of journal)) (past_limit plan journal entry turns is))
 
 -- ---- panic
-
-panic_word : (word : OperatorWord) → Command Panic ≡ Command word → word ≡ Panic
-panic_word word is = cc
 
 line_no_command : (waits : Bool) (left : List ScriptLine) (word : OperatorWord) → line_asks waits left ≡ Some (Command word) → ⊥
 line_no_command waits [] word is = cc

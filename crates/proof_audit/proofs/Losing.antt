@@ -32,24 +32,6 @@ pub serial_more : (plan : PlanData) (before : Database) (items : List HistoryIte
 serial_more plan before [] item between after is leads = (after, subst (λ (tables : Database). Leads plan item tables after) is leads, refl)
 serial_more plan before (first ∷ items) item between after is leads = (is.0, is.1, serial_more plan is.0 items item between after is.2 leads)
 
-pub record IsLast (plan : PlanData) (before : Database) (items : List HistoryItem) (item : HistoryItem) (after : Database) : Type 0 where
-  pub between : Database
-  pub serial : Serial plan before items between
-  pub leads : Leads plan item between after
-
--- the last thing
-pub serial_last : (plan : PlanData) (before : Database) (items : List HistoryItem) (item : HistoryItem) (after : Database) → Serial plan before (items ++ item ∷ []) after → IsLast plan before items item after
-serial_last plan before [] item after is = record { between = before; serial = refl; leads = subst (λ (tables : Database). Leads plan item before tables) (sym is.2) is.1 }
-serial_last plan before (first ∷ items) item after is =
-    let last = serial_last plan is.0 items item after is.2 in
-    record { between = last.between; serial = (is.0, is.1, last.serial); leads = last.leads }
-
--- what the last thing leads from is where the others lead to
-pub last_leads : (plan : PlanData) (before : Database) (items : List HistoryItem) (item : HistoryItem) (between after : Database) → Serial plan before items between → Serial plan before (items ++ item ∷ []) after → Leads plan item between after
-last_leads plan before items item between after is more =
-    let last = serial_last plan before items item after more in
-    subst (λ (tables : Database). Leads plan item tables after) (serial_is_one plan before items last.between between last.serial is) last.leads
-
 -- ---- a last line that was lost
 
 abbrev pub lost_line : ScriptWord → Side → List TxnLine

@@ -19,8 +19,9 @@ use Rattle.plan_data.specs.PlanData.{PlanData}
 use Rattle.tool_program.specs.JournalWords.Clients.{Reached, after_turn, became_in, became_of, client_after, client_asks, client_at, is_loss, marked, with_draw}
 use Rattle.tool_program.specs.JournalWords.KeptPlans.{TakesNext}
 use Rattle.tool_program.specs.JournalWords.Sessions.{IsInSession, IsSeated, live_session, session_left}
+use Rattle.run_actors.proofs.More.{live_more}
 use Rattle.proof_audit.proofs.Clients.{same_client}
-use Rattle.proof_audit.proofs.Sessions.{IsLostRightly, live_more}
+use Rattle.proof_audit.proofs.Sessions.{IsLostRightly}
 use Rattle.proof_journals.proofs.Actors.{lost_left}
 use Rattle.proof_journals.proofs.Linking.{client_more}
 

@@ -1,5 +1,5 @@
 -- Where an actor waits, its last call is what it waits with: so the lines tell whether that is a RENAME.
-use Rattle.std.proofs.Common.{◌≡◌, Bool, true, false, cond, List, [], ◌∷◌, ◌++◌, Option, Some, None, refl, sym, ap, ◌∙◌}
+use Rattle.std.proofs.Common.{◌≡◌, Bool, true, false, cond, List, [], ◌∷◌, ◌++◌, Option, Some, refl, sym, ap, ◌∙◌}
 use Rattle.std.proofs.lemmas.List.{map-append}
 use Rattle.std.proofs.lemmas.List.Sums.{fold-append}
 use Rattle.base_values.proofs.SchemaRules.Steps.{some_is}
@@ -13,7 +13,8 @@ use Rattle.server_model.specs.declared.entry.Asked.TheVariants.{Call, Poll, Comm
 use Rattle.server_model.specs.declared.entry.Entry.{Entry}
 use Rattle.server_model.specs.Along.{Along, Along-keeps}
 use Rattle.server_model.specs.Entries.{same_actor}
-use Rattle.tool_program.specs.JournalWords.Histories.{request_waiting, waits_after, waits_in}
+use Rattle.tool_program.specs.JournalWords.Histories.{request_waiting, waits_after}
+use Rattle.run_actors.proofs.More.{waits_more}
 use Rattle.run_audit.specs.declared.line.TraceLine.{TraceLine}
 use Rattle.run_audit.specs.Lines.{asked_of, line_of, lines_of}
 use Rattle.run_audit.specs.Rules.{has_renamed, renames_by, renames_step}
@@ -43,10 +44,6 @@ renamed_more : (lines : List TraceLine) (line : TraceLine) (actor : Actor) → h
 unfolding has_renamed
 renamed_more lines line actor = fold-append (renames_step actor) false lines (line ∷ [])
 
-waiting_more : (journal : List Entry) (entry : Entry) (actor : Actor) → request_waiting (journal ++ entry ∷ []) actor ≡ waits_in actor (request_waiting journal actor) entry
-unfolding request_waiting
-waiting_more journal entry actor = fold-append (waits_in actor) None journal (entry ∷ [])
-
 abbrev pub LinesTellWaiting : List Entry → Type 0
 LinesTellWaiting journal = (actor : Actor) (request : Request) → request_waiting journal actor ≡ Some request → has_renamed (lines_of journal) actor ≡ is_rename_request request
 
@@ -54,7 +51,7 @@ waits_step : (journal : List Entry) (entry : Entry) → LinesTellWaiting journal
 waits_step journal entry known actor request is =
     ap (λ (lines : List TraceLine). has_renamed lines actor) (map-append line_of journal (entry ∷ []))
     ∙ renamed_more (lines_of journal) (line_of entry) actor
-    ∙ here_renames (same_actor entry.actor actor) (request_waiting journal actor) (has_renamed (lines_of journal) actor) entry.asked entry.answer request (known actor) (sym (waiting_more journal entry actor) ∙ is)
+    ∙ here_renames (same_actor entry.actor actor) (request_waiting journal actor) (has_renamed (lines_of journal) actor) entry.asked entry.answer request (known actor) (sym (waits_more journal entry actor) ∙ is)
 
 any_journal : (before journal : List Entry) → Along (λ some entry. Unit {0}) before journal
 any_journal before [] = tt

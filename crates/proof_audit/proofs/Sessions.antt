@@ -19,6 +19,7 @@ use Rattle.server_model.specs.Entries as entries
 use Rattle.tool_program.specs.JournalWords.Journals.{turns_of}
 use Rattle.tool_program.specs.JournalWords.KeptPlans.{commands_taken}
 use Rattle.tool_program.specs.JournalWords.Sessions.{live_session, session_in, session_left}
+use Rattle.run_actors.proofs.More.{live_more}
 use Rattle.run_audit.specs.declared.line.LineAnswer.{LineAnswer}
 use Rattle.run_audit.specs.declared.line.TraceLine.{TraceLine}
 use Rattle.run_audit.specs.Lines.{asked_of, heard_answer, missed_answer, line_answer, line_of, lines_of}
@@ -79,10 +80,6 @@ left_alike client Cut side answer missed session lost cut = sym (ap (λ (a : Ans
 has_more : (lines : List TraceLine) (line : TraceLine) (actor : Actor) → has_session (lines ++ line ∷ []) actor ≡ session_step actor (has_session lines actor) line
 unfolding has_session
 has_more lines line actor = fold-append (session_step actor) false lines (line ∷ [])
-
-pub live_more : (journal : List Entry) (entry : Entry) (actor : Actor) → live_session (journal ++ entry ∷ []) actor ≡ session_in actor (live_session journal actor) entry
-unfolding live_session
-live_more journal entry actor = fold-append (session_in actor) None journal (entry ∷ [])
 
 line_alike : (entry : Entry) (actor : Actor) (old : Option ℕ) → IsLostRightly entry → session_step actor (is_some old) (line_of entry) ≡ is_some (session_in actor old entry)
 line_alike entry actor old rightly = by (same_actor entry.actor actor) where

@@ -99,9 +99,6 @@ lex_unfit turn key column number wide can also =
     (name_then (codes "unfit") (codes "turn " ++ rest) _ (omega arith) (λ place. refl) (name_then (codes "turn") rest _ (omega arith) (λ place. refl) numbered))
 
 -- the turns of a task's tries
-abbrev tries_text : List ℕ → List ℕ
-tries_text turns = codes " turns" ++ spaced_turns turns
-
 abbrev tries_words : List ℕ → List Token
 tries_words turns = keyword (codes "turns") ∷ number_words turns
 
