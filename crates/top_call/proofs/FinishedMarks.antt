@@ -60,7 +60,8 @@ use Rattle.top_call.specs.FinishLaws.{ReadPlanLaws}
 use Rattle.top_call.specs.Rebuilds.{FinishedMarksAreRebuilt, IsMarkedBehind}
 use Rattle.top_call.specs.ResumedRuns.{IsSoundFinish, finish_in, is_resumed, run_in}
 use Rattle.top_call.proofs.FinishLaws.Stated.{together}
-use Rattle.top_call.proofs.ResumedRuns.{all_of, alone, run_whole, sound_behind}
+use Rattle.proof_audit.proofs.Wholes.{run_whole}
+use Rattle.top_call.proofs.ResumedRuns.{all_of, alone, sound_behind}
 use Rattle.top_call.proofs.Splits.{Splits, mark_is, splits_behind}
 
 -- RUNS OF A PLAN

@@ -36,7 +36,8 @@ use Rattle.top_call.specs.ResumedRuns.{EndsBehind, FinishesTellTheAlter, IsEnd, 
 use Rattle.top_call.specs.WholeReplays.Replays.{IsSoundReplay}
 use Rattle.top_call.specs.WholeReplays.SoundRuns.{IsSoundRun}
 use Rattle.top_call.proofs.RestedServers.{rested_after}
-use Rattle.top_call.proofs.ResumedRuns.{all_of, alone, ended_alone, ended_verdict, faithful_at, gone_on_verdict, none_unfinished, run_whole, sound_behind}
+use Rattle.proof_audit.proofs.Wholes.{none_unfinished, run_whole}
+use Rattle.top_call.proofs.ResumedRuns.{all_of, alone, ended_alone, ended_verdict, faithful_at, gone_on_verdict, sound_behind}
 
 -- the table that was made is the one at the mark, where no row is unfit
 pub table_text_is : (opening : TableRows) (new : AlteredSchema) (changes : List Change) (then : Option TableRows) (found : Option UnfitRow) (made : TableRows) → IsRebuiltOf opening new changes then → made.schema ≡ new.schema → converted_rows new.map (change_all (key_places opening.schema) changes opening.rows) ≡ Some made.rows → found ≡ None

@@ -22,6 +22,7 @@ use Rattle.tool_finish.specs.Checkpoints.{has_checkpoint}
 use Rattle.tool_finish.specs.Finishes.{IsFinish, finish_verdict, first_live, stage_behind, verdict_in}
 use Rattle.tool_finish.specs.Finishes as finishes
 use Rattle.proof_journals.specs.Machine.Laws.{TellsAlter}
+use Rattle.proof_audit.proofs.Wholes.{none_unfinished, run_whole}
 use Rattle.proof_plans.specs.ReadPlans.Laws.{WasRead}
 use Rattle.proof_journals.proofs.Journals.{state_more}
 use Rattle.run_finish.specs.FinishRuns.{FinishRun, TakesNext}
@@ -144,10 +145,6 @@ sound_behind plan journal resumes resumed = subst (λ (b : Bool). GoesOn b plan 
 pub all_of : (plan : PlanData) (journal : List Entry) → run_in plan journal ++ finish_in plan journal ≡ journal
 all_of plan journal = take-append-drop plan.options.turn_limit journal
 
--- then the journal is the run's
-pub run_whole : (plan : PlanData) (journal : List Entry) → finish_in plan journal ≡ [] → run_in plan journal ≡ journal
-run_whole plan journal none = sym (append-nil (run_in plan journal)) ∙ ap (λ (all : List Entry). run_in plan journal ++ all) (sym none) ∙ all_of plan journal
-
 -- THE WHOLE JOURNAL
 
 -- it is faithful, and keeps to its sessions
@@ -170,10 +167,6 @@ none_started plan run P losing_so listing_so = by (is_some (first_live plan run)
   by : (b : Bool) → P (if b then Losing else Listing)
   by true = losing_so
   by false = listing_so
-
-pub none_unfinished : (plan : PlanData) (run : List Entry) → finish_verdict plan run [] ≡ verdicts.Unfinished
-unfolding finish_verdict
-none_unfinished plan run = none_started plan run (λ stage. verdict_in plan (run ++ []) stage ≡ verdicts.Unfinished) refl refl
 
 none_finished : (plan : PlanData) (run : List Entry) → finishes.is_over (stage_behind plan run []) ≡ false
 none_finished plan run = none_started plan run (λ stage. finishes.is_over stage ≡ false) refl refl

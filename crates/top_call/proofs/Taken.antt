@@ -27,7 +27,8 @@ use Rattle.top_endings.specs.declared.command.PlanCommand.TheVariants.{Check, Re
 use Rattle.top_call.specs.Outcomes.{Takes}
 use Rattle.top_call.specs.Promises.{Completes, EndsBy, IsDoneWhereSmooth, IsDoneWithRoom}
 use Rattle.top_call.specs.TopLaws.{Laws}
-use Rattle.top_call.proofs.ResumedRuns.{all_run, alone, at_limit, gone_on_verdict, none_unfinished, run_whole, spent}
+use Rattle.proof_audit.proofs.Wholes.{none_unfinished, run_whole}
+use Rattle.top_call.proofs.ResumedRuns.{all_run, alone, at_limit, gone_on_verdict, spent}
 
 pub tells_alter : Laws → (plan : PlanData) (journal : List Entry) → WasRead plan → IsFaithful plan journal → Follows plan journal → has_ended plan journal ≡ true → TellsAlter plan journal
 tells_alter laws plan journal was faithful follows ended = laws.tell plan journal (laws.runnable plan was).fitting (laws.runnable plan was).stands faithful follows ended

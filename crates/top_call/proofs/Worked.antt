@@ -8,7 +8,8 @@ use Rattle.tool_program.specs.Orders.{WorkerTurn}
 use Rattle.top_call.specs.PlanWorks.Works.{IsSoundRunByWorkers}
 use Rattle.top_call.specs.Outcomes.{turns_of, IsRunTaken}
 use Rattle.top_call.specs.ResumedRuns.{Resumes, finish_in, is_resumed, run_in}
-use Rattle.top_call.proofs.ResumedRuns.{alone, resumed_full, run_whole}
+use Rattle.proof_audit.proofs.Wholes.{run_whole}
+use Rattle.top_call.proofs.ResumedRuns.{alone, resumed_full}
 
 -- it has as many turns as its journal
 pub same_turns : (plan : PlanData) (journal : List Entry) (turns : List WorkerTurn) (workers : ℕ) → IsSoundRunByWorkers plan journal turns workers → length turns ≤ length journal

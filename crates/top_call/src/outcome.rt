@@ -184,8 +184,8 @@ fn reported_after<V: Serve>(alloc: Global, plan: &Plan, left: RunResult<V>) -> O
     }
 }
 
-/// What comes of a run in which the RENAME was done: the table that is made anew from the log.
-fn rebuilt_after<V: Serve, R: Threads + Sync, G: Gate + Sync>(
+/// What comes of a run: where the RENAME was done, the table that is made anew from the log; else the report.
+fn rebuilt_or_reported<V: Serve, R: Threads + Sync, G: Gate + Sync>(
     rt: &R,
     alloc: Global,
     plan: &Plan,
@@ -199,11 +199,13 @@ fn rebuilt_after<V: Serve, R: Threads + Sync, G: Gate + Sync>(
     requires resumes { Resumes plan.now left.run.journal }
     requires logged { left.logged ≡ logged_at_mark plan.now (plan.now.table ∷ []) (run_in plan.now left.run.journal) }
     requires end { IfSome left.run.end (λ end. IsEnd plan.now left.run.journal end.verdict (V.state end.server) end.sessions) }
-    requires done { IfSome left.run.end (λ end. end.verdict ≡ verdicts.Done) }
     ensures printed { IfSome result.printed (IsRunPrinted (rebuild_at plan.now left.run.journal) plan.now left.run.journal) }
     ensures turns { result.turns ≡ left.run.turns }
     ensures journal { result.journal ≡ left.run.journal }
 {
+    if !is_done(&left.run.end) {
+        return reported_after(alloc, plan, left.run);
+    }
     finishes_tell_the_alter();
     let Replay { run, logged } = left;
     let RunResult {
@@ -226,32 +228,6 @@ fn rebuilt_after<V: Serve, R: Threads + Sync, G: Gate + Sync>(
             turns,
             journal,
         },
-    }
-}
-
-/// What comes of a run: where the RENAME was done, the table that is made anew from the log; else the report.
-fn rebuilt_or_reported<V: Serve, R: Threads + Sync, G: Gate + Sync>(
-    rt: &R,
-    alloc: Global,
-    plan: &Plan,
-    left: Replay<V>,
-    workers: u32,
-    gate: &G,
-) -> Outcome
-    requires workers { AreShards workers }
-    requires read { WasRead plan.now }
-    requires replay { IsSoundReplay plan.now (run_in plan.now left.run.journal) }
-    requires resumes { Resumes plan.now left.run.journal }
-    requires logged { left.logged ≡ logged_at_mark plan.now (plan.now.table ∷ []) (run_in plan.now left.run.journal) }
-    requires end { IfSome left.run.end (λ end. IsEnd plan.now left.run.journal end.verdict (V.state end.server) end.sessions) }
-    ensures printed { IfSome result.printed (IsRunPrinted (rebuild_at plan.now left.run.journal) plan.now left.run.journal) }
-    ensures turns { result.turns ≡ left.run.turns }
-    ensures journal { result.journal ≡ left.run.journal }
-{
-    if is_done(&left.run.end) {
-        rebuilt_after(rt, alloc, plan, left, workers, gate)
-    } else {
-        reported_after(alloc, plan, left.run)
     }
 }
 
