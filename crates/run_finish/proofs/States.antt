@@ -33,12 +33,6 @@ read_state old new state going reads =
     subst (λ (x : FinishState). IsFinishState x state) (sym reads.same)
     (going_read old.plan.now old.run_turns old.journal.items old.names old.sessions.items old.counts old.made old.stage new.stage old.is_answered state going reads.stage)
 
-pub read_taken : (old new : FinishState) → Reads old new → new.is_answered ≡ false
-read_taken old new reads = ap (λ (x : FinishState). x.is_answered) reads.same
-
-pub read_going : (old new : FinishState) → Reads old new → is_over (stage_behind old.plan.now (run_of old) (turns_in old)) ≡ false → is_over new.stage ≡ false
-read_going old new reads going = ap is_over reads.stage ∙ going
-
 -- nothing is to be taken
 pub reads_none : (one : FinishState) (state : State) → IsFinishState one state → one.is_answered ≡ false → Reads one one
 reads_none one state going none = record {
@@ -48,16 +42,21 @@ reads_none one state going none = record {
 
 -- THE NEXT TURN
 
-pub comes_now : (one : FinishState) (state : State) → IsFinishState one state → one.is_answered ≡ false → is_over one.stage ≡ false → next one.plan.now one.journal.items one.stage ≡ None → ⊥
-comes_now one state going taken here none =
-    let at : one.stage ≡ stage_behind one.plan.now (run_of one) (turns_in one) = subst (λ (b : Bool). IsStageAt one.plan.now (run_of one) (turns_in one) b one.stage) taken going.stage in
-    let comes : is_some (next one.plan.now (run_of one ++ turns_in one) (stage_behind one.plan.now (run_of one) (turns_in one))) ≡ true =
-    calls_come one.plan.now (run_of one) (turns_in one) (ap is_over (sym at) ∙ here) in
-    false≢true
-    (sym (ap (λ (asking : Option Asking). is_some asking) none)
-    ∙ ap (λ (s : Stage). is_some (next one.plan.now one.journal.items s)) at
-    ∙ ap (λ (all : List Entry). is_some (next one.plan.now all (stage_behind one.plan.now (run_of one) (turns_in one)))) (sym (take-append-drop one.run_turns one.journal.items))
-    ∙ comes)
+-- where none comes, the new tool is over
+pub none_over : (one : FinishState) (state : State) → IsFinishState one state → one.is_answered ≡ false → next one.plan.now one.journal.items one.stage ≡ None → is_over one.stage ≡ true
+none_over one state going taken none = by (is_over one.stage) refl where
+  by : (b : Bool) → is_over one.stage ≡ b → is_over one.stage ≡ true
+  by true over = over
+  by false here =
+      let at : one.stage ≡ stage_behind one.plan.now (run_of one) (turns_in one) = subst (λ (b : Bool). IsStageAt one.plan.now (run_of one) (turns_in one) b one.stage) taken going.stage in
+      let comes : is_some (next one.plan.now (run_of one ++ turns_in one) (stage_behind one.plan.now (run_of one) (turns_in one))) ≡ true =
+      calls_come one.plan.now (run_of one) (turns_in one) (ap is_over (sym at) ∙ here) in
+      absurd
+      (false≢true
+      (sym (ap (λ (asking : Option Asking). is_some asking) none)
+      ∙ ap (λ (s : Stage). is_some (next one.plan.now one.journal.items s)) at
+      ∙ ap (λ (all : List Entry). is_some (next one.plan.now all (stage_behind one.plan.now (run_of one) (turns_in one)))) (sym (take-append-drop one.run_turns one.journal.items))
+      ∙ comes))
 
 -- A TURN
 

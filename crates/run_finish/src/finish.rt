@@ -1,6 +1,6 @@
 //! A run that is finished.
 
-ghost use Rattle.std.specs.Prelude.{◌≡◌, ◌≤◌, [], ◌++◌, length, true, false, OnOk, OnErr};
+ghost use Rattle.std.specs.Prelude.{◌≡◌, ◌≤◌, [], ◌++◌, length, Ok, true, false, OnErr};
 ghost use Rattle.tool_finish.specs.Callable.{IsFinishable};
 ghost use Rattle.tool_finish.specs.Checkpoints.{has_checkpoint};
 ghost use Rattle.tool_finish.specs.Finishes.{finish_verdict, IsFinish};
@@ -74,10 +74,10 @@ impl<'a, V: Serve> Finish<'a, V> {
         self.state.ended()
     }
 
-    /// Takes the turn that comes next.
-    fn advance(&mut self) -> Result<(), AllocError>
-        requires { is_ended self.old ≡ false }
-        ensures ok { OnOk result (TakesNext self.old self.new) }
+    /// Takes the turn that comes next; `false` where there is none, since the new tool is over.
+    fn advance(&mut self) -> Result<bool, AllocError>
+        ensures took { result ≡ Ok true → TakesNext self.old self.new }
+        ensures over { result ≡ Ok false → is_ended self.old ≡ true }
         ensures err { OnErr result (IsUnmoved self.old self.new) }
     {
         self.state.advance(self.alloc, &mut self.server)
@@ -93,7 +93,8 @@ impl<'a, V: Serve> Finish<'a, V> {
             return Stepped::Over;
         }
         match self.advance() {
-            Ok(()) => Stepped::Took,
+            Ok(true) => Stepped::Took,
+            Ok(false) => Stepped::Over,
             Err(_) => Stepped::NoMemory,
         }
     }

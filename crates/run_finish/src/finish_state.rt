@@ -1,6 +1,6 @@
 //! What is kept of a run that is finished, but its server.
 
-ghost use Rattle.std.specs.Prelude.{◌≡◌, ◌≤◌, ◌<◌, ◌+◌, ◌-◌, [], ◌∷◌, ◌++◌, length, map, slice_get, Some, None, true, false, vec_len, vec_capacity, IfOk, OnOk, OnErr};
+ghost use Rattle.std.specs.Prelude.{◌≡◌, ◌≤◌, ◌<◌, ◌+◌, ◌-◌, [], ◌∷◌, ◌++◌, length, map, slice_get, Some, None, Ok, true, false, vec_len, vec_capacity, IfSome, IfOk, OnOk, OnErr};
 ghost use Rattle.tool_finish.specs.Finishes.{is_over, stage_behind, finish_verdict};
 ghost use Rattle.tool_finish.specs.Stages.{IsSeen};
 ghost use Rattle.tool_program.specs.JournalWords.Sessions.{live_session};
@@ -136,20 +136,20 @@ impl FinishState<'_> {
         }
     }
 
-    /// The turn that comes next.
-    fn next_turn<V: Serve>(&self, alloc: Global, server: &V) -> Result<Turn, AllocError>
+    /// The turn that comes next; none where the new tool is over.
+    fn next_turn<V: Serve>(&self, alloc: Global, server: &V) -> Result<Option<Turn>, AllocError>
         requires state { IsFinishState self.now (V.state server.now) }
         requires taken { self.now.is_answered ≡ false }
-        requires going { is_over self.now.stage ≡ false }
-        ensures { IfOk result (λ turn. IsNext self.now turn) }
+        ensures turn { IfOk result (λ next. IfSome next (λ turn. IsNext self.now turn)) }
+        ensures none { result ≡ Ok None → is_over self.now.stage ≡ true }
     {
         match self.stage.next(alloc, &self.view(server))? {
-            Some((actor, asked)) => Ok(Turn {
+            Some((actor, asked)) => Ok(Some(Turn {
                 actor,
                 side: None,
                 asked: TurnAsked::all(asked),
-            }),
-            None => unreachable!(),
+            })),
+            None => Ok(None),
         }
     }
 
@@ -204,17 +204,22 @@ impl FinishState<'_> {
         Ok(())
     }
 
-    /// Takes the turn that comes next. Where there is no memory, all is as before, but for a session that was made and is lost
-    /// again.
-    pub fn advance<V: Serve>(&mut self, alloc: Global, server: &mut V) -> Result<(), AllocError>
-        requires state { IsFinishState self.old (V.state server.old) }
-        requires going { is_over (stage_behind self.old.plan.now (run_of self.old) (turns_in self.old)) ≡ false }
+    /// Takes the turn that comes next; `false` where there is none, since the new tool is over. Where there is no memory, all is as
+    /// before, but for a session that was made and is lost again.
+    pub fn advance<V: Serve>(&mut self, alloc: Global, server: &mut V) -> Result<bool, AllocError>
+        requires { IsFinishState self.old (V.state server.old) }
         ensures state { IsFinishState self.new (V.state server.new) }
-        ensures ok { OnOk result (Advances self.old (V.state server.old) self.new (V.state server.new)) }
+        ensures took { result ≡ Ok true → Advances self.old (V.state server.old) self.new (V.state server.new) }
+        ensures over { result ≡ Ok false → is_over (stage_behind self.old.plan.now (run_of self.old) (turns_in self.old)) ≡ true }
         ensures err { OnErr result (IsStill self.old (V.state server.old) self.new (V.state server.new)) }
     {
         self.read_last(alloc, server)?;
-        let turn = self.next_turn(alloc, server)?;
-        self.take(server, turn)
+        match self.next_turn(alloc, server)? {
+            Some(turn) => {
+                self.take(server, turn)?;
+                Ok(true)
+            }
+            None => Ok(false),
+        }
     }
 }
