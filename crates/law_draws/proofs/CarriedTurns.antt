@@ -128,12 +128,6 @@ keeps_leaves name (requests.Drop dropped) keeps = by (bytes_eq name dropped) ref
 keeps_leaves name (requests.Rename pairs) keeps = absurd (false≢true keeps)
 keeps_leaves name request keeps = tt
 
--- who isn't the locker or the renamer
-abbrev is_other : Actor → Bool
-is_other Lock = false
-is_other Ren = false
-is_other actor = true
-
 -- *Carried*, behind a journal
 abbrev pub IsCarried : PlanData → List Entry → Type 0
 IsCarried plan journal = ToolPhaseCarried plan (state_at plan journal) (moment plan journal).tool.tool_phase

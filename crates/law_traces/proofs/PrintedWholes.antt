@@ -38,7 +38,7 @@ use Rattle.proof_plain.specs.Plans.{IsShort, PlainPlan}
 use Rattle.proof_plain.proofs.Journals.{PlainRun, all_plain}
 use Rattle.proof_plain.proofs.Requests.{doing_plain}
 use Rattle.proof_plain.proofs.Statements.{found_plain}
-use Rattle.proof_literals.proofs.Finals.{journal_short}
+use Rattle.proof_literals.proofs.Finals.{journal_short, sessions_front}
 use Rattle.proof_literals.proofs.ReadLimits.{small_plan}
 use Rattle.proof_plans.specs.ReadPlans.Laws.{WasRead}
 use Rattle.proof_resume.specs.Starts.Laws.{KeptRunsAreFinishable}
@@ -66,10 +66,6 @@ use Rattle.law_traces.proofs.PrintedRuns.{lines_short, table_prints, turns_print
 use Rattle.law_traces.proofs.WholePrints.{WholePrints, behind_begins, goes, whole_prints}
 use Rattle.law_traces.proofs.WholeRuns.{at, few_run, is, of, plain, runs, serial, tries}
 
-small_front : (front back : List Entry) → AllByRecursion (λ (entry : Entry). entry.session < 2 ^ 64) (front ++ back) → AllByRecursion (λ (entry : Entry). entry.session < 2 ^ 64) front
-small_front [] back all = tt
-small_front (entry ∷ front) back all = (all.0, small_front front back all.1)
-
 -- ---- the verdict of a new tool
 
 module _ (plan : PlanData) (plainly : PlainPlan plan) (run_of : IsRunnable plan) (serial_of : IsSerialPlan plan) (run turns : List Entry) (kept : IsKept plan run) (run_short : IsShort run) (finishable : IsFinishable plan run) (are : AreNewTools plan run turns) (whole : IsWhole plan (run ++ turns)) (few : length (run ++ turns) ≤ 2 ^ 31)
@@ -80,7 +76,7 @@ module _ (plan : PlanData) (plainly : PlainPlan plan) (run_of : IsRunnable plan)
   front_plain before after is =
       (goes plan plainly run_of serial_of run kept run_short finishable [] before
       (along_front (IsFinishTurn plan run) run before after (subst (IsFinish plan run) is are.finish)) (front_kept (run ++ before) (subst (IsFaithful plan) whole_is are.faithful)) (whole_before plan (run ++ before) after (subst (IsWhole plan) whole_is whole)) shorter
-      (small_front before after (subst (λ (all : List Entry). AllByRecursion (λ (entry : Entry). entry.session < 2 ^ 64) all) is small)) (behind_begins plan plainly run_of serial_of run kept run_short finishable)).1 where
+      (sessions_front before after (subst (λ (all : List Entry). AllByRecursion (λ (entry : Entry). entry.session < 2 ^ 64) all) is small)) (behind_begins plan plainly run_of serial_of run kept run_short finishable)).1 where
         whole_is : run ++ turns ≡ (run ++ before) ++ after
         whole_is = ap (λ (all : List Entry). run ++ all) is ∙ sym (append_assoc run before after)
 

@@ -21,7 +21,7 @@ use Rattle.server_model.specs.declared.need.Need.{Need}
 use Rattle.server_model.specs.declared.work.StatementResult.{StatementResult}
 use Rattle.server_model.specs.declared.work.Work.{Work}
 use Rattle.server_model.specs.declared.work.Work.TheVariants as works
-use Rattle.server_model.specs.Effects.{Effect, all_exist, begins, effect_unless, effect_within, defined, is_outside, locks_if, result_effect}
+use Rattle.server_model.specs.Effects.{all_exist, begins, effect_unless, effect_within, defined, is_outside, locks_if, result_effect}
 use Rattle.server_model.specs.Operations.{Operation, after_events, events_of, operation_result, result_in}
 use Rattle.server_model.specs.StatementResults.{TableResult, result_or_refusal, tells, updated, updates}
 use Rattle.server_model.specs.PlainServer.{called_unless, calls, does, done, did, given_at, leaves, loses, polled_of, polled_over, polled_unless, polls, serves, without_waiting}
@@ -71,9 +71,6 @@ unfolding operation_result
 said_nothing tables operation is = in_nothing operation (find_table operation.table tables) is
 
 -- ---- what is refused keeps the tables
-
-Keeps : Effect → State → ℕ → Type 0
-Keeps one state number = IsRefusal (does one state number).answer → (does one state number).after.tables ≡ state.tables
 
 result_keeps : (busy : Bool) (need : Need) (result : StatementResult) (state : State) (number : ℕ) → (busy ≡ false → writes_of (session_of number state.sessions) ≡ []) → (IsRefusal result.answer → result.events ≡ []) → IsRefusal (does (result_effect busy need result) state number).answer
     → (does (result_effect busy need result) state number).after.tables ≡ state.tables

@@ -359,10 +359,6 @@ spare_one false n = by (nat_lt 0 n) where
   by true = omega arith
   by false = omega arith
 
-one_at_most : (b : Bool) → cond b 1 0 ≤ 1
-one_at_most true = omega arith
-one_at_most false = omega arith
-
 none_side : (side : Option Side) → is_some side ≡ false → side ≡ None
 none_side None is = refl
 none_side (Some side) is = absurd (true≢false is)

@@ -122,7 +122,7 @@ pub record PlainTurn (plan : PlanData) (before : List Entry) (entry : Entry) : T
   pub draw : SmallIf entry.draw
   pub drawn : is_some entry.draw ≡ true → DrawnAnswer (inner_answer (state_at plan before) entry)
 
-sessions_front : (front back : List Entry) → AllByRecursion (λ (entry : Entry). entry.session < 2 ^ 64) (front ++ back) → AllByRecursion (λ (entry : Entry). entry.session < 2 ^ 64) front
+pub sessions_front : (front back : List Entry) → AllByRecursion (λ (entry : Entry). entry.session < 2 ^ 64) (front ++ back) → AllByRecursion (λ (entry : Entry). entry.session < 2 ^ 64) front
 sessions_front [] back all = tt
 sessions_front (entry ∷ front) back all = (all.0, sessions_front front back all.1)
 

@@ -229,9 +229,6 @@ module _ (plan : PlanData) (so_far : Words) (live : Option ℕ) (attempts : ℕ)
   lock_some : WaitsToLock ≡ Nothing → ⊥
   lock_some same = cc
 
-  abbrev After : Asked → Hold → Phase → Type 0
-  After asked hold phase = New asked hold phase
-
   with_asked : (hold : Hold) (phase : Phase) (asked one : Asked) → asked ≡ one → New one hold phase → New asked hold phase
   with_asked hold phase asked one same is = subst (λ (a : Asked). New a hold phase) (sym same) is
 

@@ -126,9 +126,6 @@ module _ (plan : PlanData) (journal : List Entry) (entry : Entry) (run : IsRun p
   abbrev has : Actor → Standing
   has = standing_of plan journal
 
-  abbrev now_has : Actor → Standing
-  now_has = standing_of plan more
-
   abbrev so_far : Words
   so_far = words plan journal
 

@@ -9,12 +9,12 @@ use Rattle.base_script.specs.declared.actor.Actor.TheVariants.{Insp, Copy, Apply
 use Rattle.table_store.specs.Databases.{TableRows, find_table}
 use Rattle.server_model.specs.Along.{Along}
 use Rattle.server_model.specs.declared.entry.Asked.{Asked}
-use Rattle.server_model.specs.declared.entry.Asked.TheVariants.{Call, Poll, Command, Cut}
+use Rattle.server_model.specs.declared.entry.Asked.TheVariants.{Call, Cut}
 use Rattle.server_model.specs.declared.entry.Entry.{Entry}
 use Rattle.server_model.specs.declared.request.Request.{Request}
 use Rattle.server_model.specs.declared.request.Request.TheVariants as requests
 use Rattle.server_model.specs.declared.session.Session.{Session}
-use Rattle.server_model.specs.Entries.{is_client, is_cut}
+use Rattle.server_model.specs.Entries.{is_client}
 use Rattle.server_model.specs.States.{State, session_of}
 use Rattle.server_model.proofs.LockedRows.Tests.{nor_right}
 use Rattle.plan_data.specs.PlanData.{PlanData, plan_altered}
@@ -50,6 +50,7 @@ use Rattle.proof_resume.proofs.Finish.Holders.{IsFreeBut}
 use Rattle.proof_resume.proofs.Finish.Marks.{adds_case}
 use Rattle.proof_resume.proofs.Finish.Prompt.{GoesAlone, StandsAlone, alone_begins, alone_more, finish_turns, its_actor, its_request, lost_cut}
 use Rattle.proof_resume.proofs.Starts.Losses.{cut_keeps}
+use Rattle.proof_resume.proofs.Finish.Asks.{cut_is}
 use Rattle.run_replay.specs.WholeReplay.Marks.{turns_to_mark}
 use Rattle.law_rebuild.specs.Laws.{IsRebuiltOf}
 use Rattle.law_rebuild.specs.Marks.{changes_logged}
@@ -100,12 +101,6 @@ losing_none plan journal state true alone = tt
 losing_none plan journal state false alone = λ n. none_held plan.table n state.sessions alone.sessions
 
 -- ONE TURN
-
-cut_is : (asked : Asked) → is_cut asked ≡ true → asked ≡ Cut
-cut_is Cut cut = refl
-cut_is (Call request) cut = absurd (true≢false (sym cut))
-cut_is Poll cut = absurd (true≢false (sym cut))
-cut_is (Command word) cut = absurd (true≢false (sym cut))
 
 -- a loss between calls does no RENAME
 cut_adds_none : (plan : PlanData) (journal : List Entry) (entry : Entry) → entry.asked ≡ Cut → list_any is_alter (entry_adds plan journal entry) ≡ false

@@ -18,6 +18,7 @@ use Rattle.tool_program.specs.Tools.{moment}
 use Rattle.tool_program.specs.Verdicts.{has_ended, verdict_of}
 use Rattle.proof_journals.specs.Run.Kept.{IsKept}
 use Rattle.proof_journals.specs.Machine.Laws.{TellsAlter}
+use Rattle.proof_order.proofs.Phases.{and_left}
 use Rattle.proof_plans.specs.ReadPlans.Laws.{WasRead}
 use Rattle.run_turns.specs.Runs.{is_over}
 use Rattle.top_call.specs.ResumedRuns.{Resumes, TellsAlterAt, finish_in, has_ended_at, has_finished, is_over_at, is_resumed, run_in, verdict_at}
@@ -133,15 +134,11 @@ never_over plan some over = by (has_ended plan []) (begins_going plan) over wher
 some_more : (n : ℕ) → (suc n == 0) ≡ false
 some_more n = grind (arith, nat_tests)
 
-first : (a b : Bool) → (a && b) ≡ true → a ≡ true
-first true b both = refl
-first false b both = absurd cc
-
 -- of a journal without turns the run has none
 run_over : (plan : PlanData) → is_over_at plan [] ≡ true → (is_over plan [] && (not (is_resumed plan []) || has_finished plan [])) ≡ true
 run_over plan over = ap (λ (all : List Entry). is_over plan all && (not (is_resumed plan all) || has_finished plan [])) (sym (all_run plan [] (omega arith))) ∙ over
 
 -- *Turns were taken*
 pub is_taken : (plan : PlanData) (journal : List Entry) → 1 ≤ plan.options.turn_limit → is_over_at plan journal ≡ true → (length journal == 0) ≡ false
-is_taken plan [] some over = absurd (never_over plan some (first (is_over plan []) (not (is_resumed plan []) || has_finished plan []) (run_over plan over)))
+is_taken plan [] some over = absurd (never_over plan some (and_left (is_over plan []) (not (is_resumed plan []) || has_finished plan []) (run_over plan over)))
 is_taken plan (entry ∷ journal) some over = some_more (length journal)

@@ -268,10 +268,6 @@ read_by verdict words lex is =
     ap (λ (read : TextWords). loose_verdict read.words >>= verdict_printed_so (verdict_text verdict)) (lexes-words (verdict_text verdict) words lex)
     ∙ ap (λ (found : Option Verdict). found >>= verdict_printed_so (verdict_text verdict)) is ∙ printed_so verdict
 
-reverted_by : (cause : Cause) (kind next third : Token) (others : List Token) → cause_in (kind ∷ next ∷ third ∷ others) ≡ Some cause → loose_verdict (keyword (codes "reverted") ∷ kind ∷ next ∷ third ∷ others) ≡ Some (Reverted cause)
-unfolding loose_verdict
-reverted_by cause kind next third others is = ap (option_map Reverted) is
-
 lex_name : (name : List ℕ) → 0 < length name → ((place : ℕ) → front_at place (name ++ []) ≡ Ok (Found class.Name (length name))) → Lexes name (keyword name ∷ [])
 lex_name name some front = subst (λ (text : List ℕ). Lexes text (keyword name ∷ [])) (append-nil name) (lex-word class.Name name [] [] some front lex-end)
 

@@ -29,7 +29,7 @@ use Rattle.proof_journals.specs.Scenes.{Stored}
 use Rattle.proof_journals.specs.Turns.{ClientAsks, IsSceneRun, about, reported_at}
 use Rattle.proof_journals.proofs.Ghost.Keeping.{found_besides}
 use Rattle.proof_journals.proofs.Machine.Marks.{ghost_not_log, old_not_log}
-use Rattle.proof_journals.proofs.Moves.{drop_moves, gone_none, rename_moves}
+use Rattle.proof_journals.proofs.Moves.{after_other, drop_moves, gone_none, rename_moves}
 use Rattle.proof_migration.proofs.Migration.Leaves.{IsMoved, WritesAway, turn_leaves}
 use Rattle.proof_migration.proofs.Program.Hints.Logging.{LogsAway, NoneWrote, away_left, watched}
 use Rattle.proof_migration.proofs.ToolPhase.Unaltered.Asking.{AskedAs, ToolCall}
@@ -66,10 +66,6 @@ front_or name (first ∷ tables) new table found = by (is_named name first) foun
   by : (b : Bool) → cond b (Some first) (find_table name (tables ++ new ∷ [])) ≡ Some table → (find_table name (tables ++ new ∷ []) ≡ Some table → (find_table name tables ≡ Some table) ⊎ (new ≡ table)) → (cond b (Some first) (find_table name tables) ≡ Some table) ⊎ (new ≡ table)
   by true found later = inl found
   by false found later = later found
-
-front_other : (name : List ℕ) (tables : Database) (new : TableRows) → is_named name new ≡ false → find_table name (tables ++ new ∷ []) ≡ find_table name tables
-front_other name [] new other = ap (λ (b : Bool). cond b (Some new) None) other
-front_other name (first ∷ tables) new other = ap (λ (found : Option TableRows). cond (is_named name first) (Some first) found) (front_other name tables new other)
 
 abbrev made_of : Database → Result Database ℕ
 made_of tables = Ok tables
@@ -158,7 +154,7 @@ module _ (plan : PlanData) (serial : IsSerialPlan plan) (journal : List Entry) (
 
     by : (b : Bool) → bytes_eq schema.name (log_name t) ≡ b → Left (now.tables ++ record { schema = schema; rows = [] } ∷ [])
     by true named = log_new schema is named none empty
-    by false other = log_stays (front_other (log_name t) now.tables (record { schema = schema; rows = [] }) other)
+    by false other = log_stays (after_other (log_name t) now.tables (record { schema = schema; rows = [] }) other)
 
   moved_left : (reported : Option Answer) (request : Request) (tables : Database) → About request → IsMoved reported now.tables request tables → Left tables
   moved_left reported (requests.Create schema) tables is moved = by (has_table schema.name now.tables) moved where

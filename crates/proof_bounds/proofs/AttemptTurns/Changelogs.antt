@@ -57,7 +57,6 @@ use Rattle.proof_journals.proofs.Actors.{same_actor_is}
 use Rattle.proof_journals.proofs.Machine.Asking.{some_request, unless_called}
 use Rattle.proof_journals.proofs.Machine.Inspecting.{Inspects, inspects, notes_so, cuts_so}
 use Rattle.proof_journals.proofs.Machine.Journals.{IsRun, IsTogether}
-use Rattle.proof_journals.proofs.Machine.Seated.{IsKnown, IsServed}
 use Rattle.proof_migration.specs.Program.Hints.{IsBegun, is_unhinted}
 use Rattle.proof_migration.specs.ToolPhase.Unaltered.{IsUnaltered}
 use Rattle.proof_migration.proofs.Attempt.Leaving.{has_is}
@@ -210,12 +209,6 @@ module _ (plan : PlanData) (runs : IsRunnable plan) (serial : IsSerialPlan plan)
 
   going : IsGoing plan journal
   going = all_going plan journal runs serial kept
-
-  known_now : IsKnown plan journal
-  known_now = going.standing.tabled.all.tool.known
-
-  served : IsServed plan journal entry
-  served = record { answered = run.answered; seated = record { session = run.followed.session } }
 
   -- WHETHER IT WAS MADE BEFORE
 

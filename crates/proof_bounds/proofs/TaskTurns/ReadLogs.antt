@@ -99,9 +99,6 @@ reads_some table log position limit read following fits left is = record {
       let same = length_so in
       omega (arith, less, same);
 } where
-  given : List ReadEvent
-  given = take limit (read_from (both table) position (drop position log))
-
   both_are : answers.Events read following ≡ events_given limit (length log) (take limit (read_from (both table) position (drop position log)))
   both_are = is ∙ read_is position limit (both table) log
 

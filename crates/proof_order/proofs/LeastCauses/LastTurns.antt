@@ -21,11 +21,9 @@ use Rattle.tool_program.specs.CutoverCore.CutOvers.{may_succeed}
 use Rattle.tool_program.specs.Failures.{is_actor_of, is_at, is_tried, drained_for, has_passed, IsUndrained, IsFailedTry}
 use Rattle.tool_program.specs.Tools.{Work, ToolPhase, SettingUp, Migrating, Tool, Moment, is_reverting, actor_took, cutover_took, drains, moment}
 use Rattle.proof_journals.specs.Machine.Runnable.{IsRunnable}
-use Rattle.proof_journals.specs.Machine.Standings.{Standing, standing_of}
 use Rattle.proof_journals.specs.Plans.{IsSerialPlan}
 use Rattle.proof_journals.specs.Run.Kept.{IsKept}
 use Rattle.proof_journals.proofs.Machine.Journals.{IsRun, IsTogether}
-use Rattle.proof_journals.proofs.Machine.Seated.{IsServed}
 use Rattle.proof_migration.proofs.Attempt.Standing.{IsStanding, all_standing}
 use Rattle.proof_migration.proofs.Attempt.Verdicts.Reasons.{ToolPhaseHolds}
 use Rattle.proof_migration.proofs.Attempt.Verdicts.Standing.{all_held}
@@ -93,9 +91,6 @@ module _ (plan : PlanData) (runs : IsRunnable plan) (serial : IsSerialPlan plan)
   abbrev tool : Tool
   tool = record now.tool { turns = now.tool.turns + 1 }
 
-  abbrev has : Actor → Standing
-  has = standing_of plan journal
-
   kept : IsKept plan journal
   kept = kept_front plan journal (entry ∷ []) kept_more
 
@@ -107,9 +102,6 @@ module _ (plan : PlanData) (runs : IsRunnable plan) (serial : IsSerialPlan plan)
 
   together : IsTogether plan journal
   together = standing.tabled.all.tool
-
-  served : IsServed plan journal entry
-  served = record { answered = run.answered; seated = record { session = run.followed.session } }
 
   going : is_reverting now.tool.reason ≡ false
   going = ap is_reverting before

@@ -8,7 +8,6 @@ use Rattle.std.proofs.lemmas.Bool.{and_parts, false≢true}
 use Rattle.std.proofs.lemmas.List.Folds.{list_any-append}
 use Rattle.std.proofs.Math.Seq.{drop-append_seam}
 use Rattle.base_values.specs.ToolNames.{log_name}
-use Rattle.base_values.specs.declared.gho_schema.schema.Schema.{Schema}
 use Rattle.base_script.specs.declared.actor.Actor.{Actor}
 use Rattle.base_script.specs.declared.actor.Actor.TheVariants.{Insp}
 use Rattle.base_script.specs.declared.actor.Side.{Side}
@@ -74,6 +73,7 @@ use Rattle.proof_migration.proofs.Program.InspectorTurns.Keeping.{LogStands, Too
 use Rattle.proof_migration.proofs.Program.Turns.Follows.{kept_run}
 use Rattle.proof_migration.proofs.ToolPhase.CopyAnswers.{not_outside}
 use Rattle.proof_bounds.specs.AttemptTurns.Attempts.{MayTry}
+use Rattle.proof_bounds.proofs.AttemptTurns.LogWrites.{found_some}
 use Rattle.proof_plain.specs.Plans.{IsShort, PlainPlan}
 use Rattle.proof_plain.proofs.Journals.{short_front}
 use Rattle.proof_resume.specs.Finish.Readings.{FinishesReadCheckpoints}
@@ -138,10 +138,6 @@ some_of : (last : Option Row) → is_some last ≡ true → (row : Row) × (last
 some_of None is = absurd (false≢true is)
 some_of (Some row) is = (row, refl)
 
-table_of : (found : Option TableRows) (schema : Schema) → option_map (λ (table : TableRows). table.schema) found ≡ Some schema → (table : TableRows) × (found ≡ Some table) × (table.schema ≡ schema)
-table_of None schema is = absurd (cc)
-table_of (Some table) schema is = (table, refl, cc)
-
 -- the changelog has its schema, and the last checkpoint's row is read
 abbrev Reads : List ℕ → Option TableRows → Option Row → Type 0
 Reads t log last = (option_map (λ (table : TableRows). table.schema) log ≡ Some (log_schema t)) × ((row : Row) → last ≡ Some row → is_some (checkpoint_of row) ≡ true)
@@ -191,7 +187,7 @@ module _ (plan : PlanData) (m : Migration) (at : Clustered m.schema) (rows : Lis
 
     left : (checkpoint_stored t (state_at plan run).tables ≡ last_checkpoint run) × Reads t (find_table (log_name t) (state_at plan run).tables) (last_checkpoint run) → LogReads plan run
     left is =
-        let table = table_of (find_table (log_name t) (state_at plan run).tables) (log_schema t) is.1.0 in
+        let table = found_some (find_table (log_name t) (state_at plan run).tables) (log_schema t) is.1.0 in
         let last = some_of (last_checkpoint run) (last_some plan run kept checkpoint.written) in
         record { table = table.0; found = table.1; schema = table.2; row = last.0; stored = is.0 ∙ last.1; reads = is.1.1 last.0 last.1 }
 

@@ -21,17 +21,13 @@ use Rattle.table_store.proofs.Orders.{turned, under_fails, Row}
 use Rattle.server_model.specs.declared.answer.Answer.TheVariants as answers
 use Rattle.server_model.specs.Chunks.{chunk_end, keys_in, keys_of, last_of, span_keys}
 use Rattle.proof_resume.specs.Finish.Chunks.{rows_above}
+use Rattle.proof_resume.proofs.Reached.Shrinking.{one_of}
 
 -- from a low end to a key
 abbrev to : Bound → Row → Span
 to low high = record { low = low; high = Closed high }
 
 -- KEYS IN A LIST
-
-slice_all : (P : Row → Type 0) (keys : List Row) (n : ℕ) (key : Row) → AllByRecursion P keys → slice_get keys n ≡ Some key → P key
-slice_all P [] n key all none = absurd (cc)
-slice_all P (first ∷ keys) zero key all some = let one : first ≡ key = cc in subst P one all.0
-slice_all P (first ∷ keys) (suc n) key all some = slice_all P keys n key all.1 some
 
 -- the last of the first ones
 last_taken : (n : ℕ) (keys : List Row) (other : Row) → n < length keys → slice_get keys n ≡ Some (last_of other (take (suc n) keys))
@@ -134,7 +130,7 @@ module _ (places : List ℕ) where
 
     -- a key that comes behind it
     later : (n : ℕ) → slice_get (keys_of places those) n ≡ Some end → compare_keys (key_of places row) end ≡ Less
-    later n found = slice_all (λ (k : Row). compare_keys (key_of places row) k ≡ Less) (keys_of places those) n end (some_all (λ (k : Row). compare_keys (key_of places row) k ≡ Less) (has (to low top)) rows before_all) found
+    later n found = one_of (λ (k : Row). compare_keys (key_of places row) k ≡ Less) (keys_of places those) n end (some_all (λ (k : Row). compare_keys (key_of places row) k ≡ Less) (has (to low top)) rows before_all) found
 
     at_key : (n : ℕ) → above low (key_of places row) ≡ true → slice_get (key_of places row ∷ keys_of places those) n ≡ Some end → Rest → Reaches low (row ∷ rows) n end
     at_key zero past found others =

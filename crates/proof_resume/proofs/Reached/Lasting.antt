@@ -53,7 +53,6 @@ use Rattle.proof_journals.proofs.Machine.Journals.{IsRun, IsTogether, asking}
 use Rattle.proof_journals.proofs.Machine.Marks.{history_more, old_not_log}
 use Rattle.proof_journals.proofs.Machine.Polling.{AllTogether, AllWaits, waits_begin, waits_more}
 use Rattle.proof_journals.proofs.Machine.Schemas.{is_quiet}
-use Rattle.proof_journals.proofs.Machine.Seated.{IsServed}
 use Rattle.proof_journals.proofs.Machine.Tabling.{given_quiet}
 use Rattle.proof_migration.specs.Attempt.Renamed.{IsRenamedAt, ToolPhaseRenamed}
 use Rattle.proof_migration.specs.ToolPhase.Unaltered.{IsUnaltered}
@@ -215,9 +214,6 @@ module _ (plan : PlanData) (runs : IsRunnable plan) (serial : IsSerialPlan plan)
 
   run : IsRun plan journal entry
   run = kept_run plan journal entry kept_more
-
-  served : IsServed plan journal entry
-  served = record { answered = run.answered; seated = record { session = run.followed.session } }
 
   scene_run : IsSceneRun (limits_of plan) (scene_of plan more) more
   scene_run = plan_runs_are_scene_runs plan more (are_runs more kept_more)

@@ -94,9 +94,6 @@ module _ (plan : PlanData) (m : Migration) (at : Clustered m.schema) (rows : Lis
   was_off : IsUnaltered plan journal
   was_off = unaltered_front plan journal (entry ∷ []) off
 
-  abbrev Now : Tool → Type 0
-  Now tool = Rose (is_reverting tool.reason) tool.tool_phase
-
   still : work.applier.position ≤ work.applier.position
   still = omega arith
 

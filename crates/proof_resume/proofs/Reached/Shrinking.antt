@@ -53,7 +53,7 @@ all_in_span places span (row ∷ rows) = by (has span (key_of places row)) refl 
   by true is rest = (is, rest)
   by false is rest = rest
 
-one_of : (P : Row → Type 0) (keys : List Row) (n : ℕ) (key : Row) → AllByRecursion P keys → slice_get keys n ≡ Some key → P key
+pub one_of : (P : Row → Type 0) (keys : List Row) (n : ℕ) (key : Row) → AllByRecursion P keys → slice_get keys n ≡ Some key → P key
 one_of P [] n key all is = absurd cc
 one_of P (first ∷ keys) zero key all is = let one : first ≡ key = cc in subst P one all.0
 one_of P (first ∷ keys) (suc n) key all is = one_of P keys n key all.1 is

@@ -1,17 +1,16 @@
 -- Each stage before the copy finds what it needs, from the first turn of the new tool on.
-use Rattle.std.proofs.Common.{◌≡◌, ℕ, ◌==◌, Bool, true, false, cond, not, ◌&&◌, ◌||◌, List, [], ◌∷◌, ◌++◌, length, drop, append_assoc, append-nil, Option, Some, None, refl, sym, ap, ◌∙◌, subst}
-use Rattle.std.specs.Prelude.{fold, unwrap_or}
+use Rattle.std.proofs.Common.{◌≡◌, ℕ, ◌==◌, Bool, true, false, cond, ◌&&◌, ◌||◌, List, [], ◌∷◌, ◌++◌, length, drop, append_assoc, append-nil, Option, Some, None, refl, sym, ap, ◌∙◌, subst}
+use Rattle.std.specs.Prelude.{unwrap_or}
 use Rattle.std.specs.Str.{bytes_eq}
 use Rattle.std.proofs.Math.Seq.{drop-append_seam}
-use Rattle.std.proofs.lemmas.List.Sums.{fold-append}
 use Rattle.base_script.specs.declared.actor.Actor.{Actor}
 use Rattle.base_script.specs.declared.actor.Actor.TheVariants.{Op, Insp}
 use Rattle.base_values.specs.ToolNames.{ghost_name, log_name, old_name}
 use Rattle.base_values.specs.declared.gho_schema.schema.Schema.{Schema}
 use Rattle.base_values.specs.declared.mysql_errors.TheConstants.{ER_BAD_TABLE_ERROR}
 use Rattle.base_values.specs.GhoSchema.Rows.{key_places}
-use Rattle.table_store.specs.Databases.{Database, TableRows, find_table, has_table, is_named, without_table}
-use Rattle.server_model.specs.Along.{Along, Along-both, Along-keeps, Along-more, Along-rest}
+use Rattle.table_store.specs.Databases.{Database, TableRows, find_table, has_table, without_table}
+use Rattle.server_model.specs.Along.{Along-both, Along-keeps, Along-more, Along-rest}
 use Rattle.server_model.specs.Answers.{ok, refuses}
 use Rattle.server_model.specs.Chunks.{ends_of, keys_of}
 use Rattle.server_model.specs.declared.answer.Answer.{Answer}
@@ -28,7 +27,7 @@ use Rattle.server_model.specs.Drawing.{filled, offered_in}
 use Rattle.server_model.specs.Effects.{Rests, Writes, defined, dropped, of_table}
 use Rattle.server_model.specs.Listings.{tables_shown}
 use Rattle.server_model.specs.States.{State, next_of, unread}
-use Rattle.server_model.proofs.LockedRows.Tests.{are_same, nor_right, same_number, turned_bytes}
+use Rattle.server_model.proofs.LockedRows.Tests.{nor_right, same_number}
 use Rattle.plan_data.specs.PlanData.{PlanData, has_counter}
 use Rattle.tool_notes.specs.declared.checkpoint.Checkpoint.{Checkpoint}
 use Rattle.tool_notes.specs.Readings.{checkpoint_of}
@@ -45,7 +44,8 @@ use Rattle.tool_finish.specs.declared.stage.Listed.{Listed}
 use Rattle.tool_finish.specs.declared.stage.Listed.TheVariants.{NotRenamed, Renamed}
 use Rattle.tool_finish.specs.declared.stage.Stage.{Stage}
 use Rattle.tool_finish.specs.declared.stage.Stage.TheVariants.{Losing, Listing, Reading, Clearing, ReadingCounter, SettingCounter, Ranging, Copying, Applying, Exchanging, DroppingLog, DroppingOld, RollingBack, Done, Reverted}
-use Rattle.tool_finish.specs.Finishes.{Asking, IsFinish, IsFinishTurn, Walk, applied, applier_from, applying, calls, checkpoint_in, clearing, copied, copier_from, copying, counter_read, counting, cuts, dropped_log, dropping, first_live, has_read, listed, losing, next, ranged, reads_checkpoint, stage_behind, took, walked}
+use Rattle.tool_finish.specs.Finishes.{Asking, IsFinish, IsFinishTurn, applied, applier_from, applying, calls, checkpoint_in, clearing, copied, copier_from, copying, counter_read, counting, cuts, dropped_log, first_live, has_read, listed, losing, next, ranged, reads_checkpoint, stage_behind, took}
+use Rattle.tool_finish.proofs.Walking.{stage_more}
 use Rattle.proof_journals.specs.Holdings.{stored}
 use Rattle.proof_journals.specs.Scenes.{Stored}
 use Rattle.proof_journals.specs.Run.Kept.{IsKept}
@@ -56,6 +56,7 @@ use Rattle.proof_journals.proofs.Machine.Marks.{ghost_not_old}
 use Rattle.proof_journals.proofs.Naming.{migrated_no_tool}
 use Rattle.proof_journals.proofs.Ghost.Turns.{along_next}
 use Rattle.proof_journals.proofs.ServerTurns.Agreements.{along_front}
+use Rattle.proof_journals.proofs.Moves.{drop_moves}
 use Rattle.proof_migration.specs.ToolPhase.Unaltered.{IsUnaltered}
 use Rattle.proof_migration.specs.Program.Turns.Laws.{IsMigrationOf}
 use Rattle.proof_migration.proofs.Program.InspectorTurns.Keeping.{LogStands, ToolPhaseFits, all_fit}
@@ -72,14 +73,7 @@ use Rattle.proof_resume.proofs.Starts.Losses.{cut_keeps, losing_finds}
 
 -- a table that is gone leaves the others
 gone_other : (name other : List ℕ) (tables : Database) → bytes_eq other name ≡ false → find_table other (without_table name tables) ≡ find_table other tables
-gone_other name other [] off = refl
-gone_other name other (table ∷ tables) off = at (is_named name table) refl (gone_other name other tables off) where
-  named_other : is_named name table ≡ true → is_named other table ≡ false
-  named_other same = rw (are_same table.schema.name name same) (turned_bytes other name off)
-
-  at : (b : Bool) → is_named name table ≡ b → find_table other (without_table name tables) ≡ find_table other tables → find_table other (cond (not b) (table ∷ without_table name tables) (without_table name tables)) ≡ cond (is_named other table) (Some table) (find_table other tables)
-  at true same rest = rest ∙ ap (λ (b : Bool). cond b (Some table) (find_table other tables)) (sym (named_other same))
-  at false same rest = ap (λ (o : Option TableRows). cond (is_named other table) (Some table) o) rest
+gone_other name other tables off = (drop_moves name tables).others other (ap (λ (b : Bool). b || false) off)
 
 -- who asks, and what
 abbrev asking : Actor → Asked → Option Asking
@@ -295,18 +289,6 @@ module _ (plan : PlanData) (m : Migration) (rows : List Row) (of : IsMigrationOf
     goes_on faithful (Reverted row) given is = tt
 
 -- THE TURNS
-
-walk_turns : (plan : PlanData) (walk : Walk) (turns : List Entry) → (fold (walked plan) walk turns).turns ≡ walk.turns ++ turns
-walk_turns plan walk [] = sym (append-nil walk.turns)
-walk_turns plan walk (entry ∷ turns) = walk_turns plan (walked plan walk entry) turns ∙ append_assoc walk.turns (entry ∷ []) turns
-
--- *The stage behind one more turn*
-pub stage_more : (plan : PlanData) (run turns : List Entry) (entry : Entry) → stage_behind plan run (turns ++ entry ∷ []) ≡ took plan ((run ++ turns) ++ entry ∷ []) (state_at plan ((run ++ turns) ++ entry ∷ [])) entry.answer (stage_behind plan run turns)
-unfolding stage_behind
-stage_more plan run turns entry =
-    let start : Walk = record { turns = run; stage = losing plan run } in
-    ap (λ (w : Walk). w.stage) (fold-append (walked plan) start turns (entry ∷ []))
-    ∙ ap (λ (l : List Entry). took plan (l ++ entry ∷ []) (state_at plan (l ++ entry ∷ [])) entry.answer (fold (walked plan) start turns).stage) (walk_turns plan start turns)
 
 module _ (plan : PlanData) (m : Migration) (rows : List Row) (of : IsMigrationOf plan m rows) (run : List Entry) (work : Work) (kept : IsKept plan run) (off : IsUnaltered plan run) (phase : (moment plan run).tool.tool_phase ≡ Migrating work) where
   -- after some turns of the new tool
