@@ -1,11 +1,9 @@
 //! What a journal says of the clients' transactions: those that ended, in the order in which they ended, with the ALTER at its
 //! place, and how far each client is in its script.
 
-mod became;
 mod history_steps;
 mod pasts;
 mod reached;
-mod replies;
 mod walks;
 
 pub use history_steps::history_steps_of;

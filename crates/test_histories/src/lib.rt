@@ -11,6 +11,7 @@ pub mod laws;
 mod leftovers;
 mod lines;
 mod marks;
+mod replies;
 mod runs;
 
 pub use histories::{HistoryStep, InOrder, run_in_order};

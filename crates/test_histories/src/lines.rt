@@ -1,35 +1,15 @@
 //! What one line of a transaction does, by its mark.
 
 ghost use Rattle.std.specs.Prelude.{◌≡◌, IfOk, option_to_list};
-ghost use Rattle.server_model.specs.Alone.{reply_of, line_says, line_events, line_replies};
+ghost use Rattle.server_model.specs.Alone.{line_says, line_events, line_replies};
 
+use crate::replies::reply_of;
 use base_script::{ScriptWord, Side};
 use base_values::mysql_errors::ER_LOCK_WAIT_TIMEOUT;
 use base_values::{Events, Sequence};
 use server_model::{Answer, Mark, Reply, StatementResult, TxnLine};
 use std::alloc::{AllocError, Global};
 use test_model::{PlainTable, statement_result};
-
-/// What a client sees of an answer; nothing where it isn't one of a client's.
-fn reply_of(answer: Answer) -> Option<Reply>
-    ensures { result ≡ reply_of answer }
-{
-    match answer {
-        Answer::Ok(count) => Some(Reply::Ok(count)),
-        Answer::Rows(rows) => Some(Reply::Rows(rows)),
-        Answer::Refused { number, .. } => Some(Reply::Error(number)),
-        Answer::TimedOut { .. } => Some(Reply::Error(ER_LOCK_WAIT_TIMEOUT)),
-        Answer::Keys { .. }
-        | Answer::Ends(_)
-        | Answer::End(_)
-        | Answer::At(_)
-        | Answer::Events { .. }
-        | Answer::Tables(_)
-        | Answer::Waiting(_)
-        | Answer::Waits { .. }
-        | Answer::Lost => None,
-    }
-}
 
 /// What a line says: BEGIN, COMMIT and ROLLBACK are answered ok 0.
 fn line_says(
@@ -76,7 +56,7 @@ pub fn line_reply(
     match line.mark {
         Mark::Answered => {
             let said = line_says(alloc, tables, &line.word)?;
-            Ok(reply_of(said.answer))
+            reply_of(&said.answer)
         }
         Mark::TimedOut => Ok(Some(Reply::Error(ER_LOCK_WAIT_TIMEOUT))),
         Mark::Lost(_) => Ok(None),

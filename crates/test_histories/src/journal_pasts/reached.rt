@@ -1,17 +1,19 @@
 //! How far a client is in its script, with the lines of its open transaction and the replies to them.
 
-ghost use Rattle.std.specs.Prelude.{◌≡◌, [], false, IfOk, OnOk};
-ghost use Rattle.tool_program.specs.JournalWords.Clients.{Broken, client_after, ends_with, is_inside, is_loss, marked, new_client, number_of, with_draw, with_line, with_reply};
+ghost use Rattle.std.specs.Prelude.{◌≡◌, ◌∷◌, [], false, List, drop, IfOk, OnOk};
+ghost use Rattle.base_script.specs.declared.script.ScriptLine.{ScriptLine};
+ghost use Rattle.tool_program.specs.JournalWords.Clients.{Broken, client_after, ends_with, is_inside, is_loss, left_after, marked, new_client, number_of, with_draw, with_line, with_reply};
 ghost use Rattle.tool_program.specs.JournalWords.Clients as clients;
 ghost use Rattle.tool_program.specs.JournalWords.Histories.{breaks, client_ends, line_ends};
 ghost use Rattle.test_histories.specs.JournalPasts.Walks.{ended_items};
 
-use crate::journal_pasts::became::{Became, after_line, became_in};
 use crate::journal_pasts::pasts::Past;
-use crate::journal_pasts::replies::heard_reply;
-use base_script::{ScriptLine, ScriptWord};
+use crate::replies::heard_reply;
+use base_script::{Script, ScriptWord};
 use base_values::{Duplicate, Sequence};
-use run_actors::client_turns::word_numbered;
+use run_actors::client_turns::{
+    ClientState, LineOutcome, heard_answer, line_outcome_of, word_numbered,
+};
 use server_model::{EndedTxn, Entry, Mark, Replies, Reply, TxnEnd, TxnLine, TxnLines};
 use std::alloc::{AllocError, Global};
 use std::marker::Model;
@@ -20,7 +22,9 @@ use std::mem;
 /// How far a client is in its script, as its turns tell.
 #[derive(Drop)]
 pub struct Reached<'a> {
-    left: &'a [ScriptLine],
+    script: &'a Script,
+    // How many of its lines are done.
+    place: usize,
     // The number that the next line drew. A server draws one only for a line that is done or lost in that turn.
     drawn: Option<u64>,
     begun: u64,
@@ -31,12 +35,13 @@ pub struct Reached<'a> {
 }
 
 impl<'a> Model for Reached<'a> {
+    ghost use Rattle.std.specs.Prelude.{drop};
     ghost use Rattle.tool_program.specs.JournalWords.Clients.{Reached as ReachedView};
     ghost use Rattle.run_actors.specs.ClientTurns.DrawnLines.{left_drawn};
 
     ghost Value = { ReachedView };
 
-    ghost view = { λ r. record { left = left_drawn r.drawn r.left.now; begun = r.begun; lines = r.lines; replies = r.replies; waits = r.waits; is_lost = r.is_lost } };
+    ghost view = { λ r. record { left = left_drawn r.drawn (drop r.place r.script.now); begun = r.begun; lines = r.lines; replies = r.replies; waits = r.waits; is_lost = r.is_lost } };
 }
 
 /// How the transaction ends with a line of this mark, where it does.
@@ -53,13 +58,24 @@ fn ends_with(inside: bool, word: &ScriptWord, mark: Mark) -> Option<TxnEnd>
     }
 }
 
+/// The place after the next line with its mark.
+#[tactic(auto, using(crate::proofs::JournalPasts::Lines::place_is))]
+fn place_after(state: ClientState, script: &Script, mark: Mark) -> usize
+    ensures { (line : ScriptLine) (lines : List ScriptLine) → drop state.place script.now ≡ line ∷ lines → drop result script.now ≡ left_after state.is_inside mark line lines }
+{
+    let mut next = state;
+    next.becomes(script, LineOutcome::Marked(mark));
+    next.place
+}
+
 impl<'a> Reached<'a> {
     /// A client at its script's begin.
-    pub(crate) fn new(alloc: Global, script: &'a [ScriptLine]) -> Reached<'a>
+    pub(crate) fn new(alloc: Global, script: &'a Script) -> Reached<'a>
         ensures { result ≡ new_client script.now }
     {
         Reached {
-            left: script,
+            script,
+            place: 0,
             drawn: None,
             begun: 0,
             lines: Sequence::new(alloc),
@@ -154,14 +170,18 @@ impl<'a> Reached<'a> {
         ensures ended { IfOk result (λ past. ended_items past ≡ line_ends client self.old mark reply self.old.left) }
         ensures rest { OnOk result (self.new ≡ marked self.old mark reply self.old.left) }
     {
-        let left = self.left;
-        let Some((line, _)) = left.split_first() else {
+        let state = ClientState {
+            place: self.place,
+            is_inside: self.is_inside(),
+            waits: self.waits,
+            is_lost: self.is_lost,
+        };
+        let Some((line, _)) = state.left(self.script).split_first() else {
             return Ok(None);
         };
-        let inside = self.is_inside();
         let word = word_numbered(&line.word, self.drawn)?;
-        let ended = ends_with(inside, &line.word, mark);
-        self.left = after_line(inside, mark, left);
+        let ended = ends_with(state.is_inside, &line.word, mark);
+        self.place = place_after(state, self.script, mark);
         self.drawn = None;
         self.take_line(word, mark, reply)?;
         match ended {
@@ -192,6 +212,7 @@ impl<'a> Reached<'a> {
     }
 
     /// A turn of this client's, who has this number: the transaction that it ended, where it did.
+    #[tactic(auto, using(crate::proofs::JournalPasts::Lines::became_is))]
     pub(crate) fn turn(
         &mut self,
         alloc: Global,
@@ -202,14 +223,17 @@ impl<'a> Reached<'a> {
         ensures rest { OnOk result (self.new ≡ client_after (clients.became self.old entry.now) (with_draw entry.now.draw self.old)) }
     {
         self.draw(entry.draw);
-        match became_in(self.waits, entry) {
-            Became::Nothing => Ok(None),
-            Became::Waits => {
+        match line_outcome_of(self.waits, entry) {
+            LineOutcome::Nothing => Ok(None),
+            LineOutcome::Waits => {
                 self.waits = true;
                 Ok(None)
             }
-            Became::Marked(mark, heard) => self.mark(alloc, client, mark, heard_reply(heard)?),
-            Became::Broken => Ok(self.broken(alloc, client)),
+            LineOutcome::Marked(mark) => {
+                let reply = heard_reply(heard_answer(entry))?;
+                self.mark(alloc, client, mark, reply)
+            }
+            LineOutcome::Broken => Ok(self.broken(alloc, client)),
         }
     }
 }

@@ -34,7 +34,7 @@ fn clients_of<'a>(alloc: Global, scripts: &'a [Script]) -> Result<Vec<Reached<'a
 {
     let mut clients = Vec::with_capacity(alloc, scripts.len())?;
     for script in scripts {
-        clients.push(Reached::new(alloc, script.as_slice()))?;
+        clients.push(Reached::new(alloc, script))?;
     }
     Ok(clients)
 }

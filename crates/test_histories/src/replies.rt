@@ -8,8 +8,8 @@ use base_values::mysql_errors::ER_LOCK_WAIT_TIMEOUT;
 use server_model::{Answer, Reply};
 use std::alloc::AllocError;
 
-/// What a client sees of an answer.
-fn reply_of(answer: &Answer) -> Result<Option<Reply>, AllocError>
+/// What a client sees of an answer; nothing where it isn't one of a client's.
+pub(crate) fn reply_of(answer: &Answer) -> Result<Option<Reply>, AllocError>
     ensures { IfOk result (λ reply. reply ≡ reply_of answer.now) }
 {
     Ok(match answer {
