@@ -1,4 +1,5 @@
 pub mod Shrinking
+pub mod CopierEnds
 pub mod ChunkEnds
 pub mod Rising
 pub mod Recalling

@@ -7,10 +7,7 @@ use Rattle.server_model.specs.declared.answer.Answer.{Answer}
 use Rattle.server_model.specs.declared.answer.Answer.TheVariants as answers
 use Rattle.server_model.specs.declared.entry.Entry.{Entry}
 use Rattle.server_model.specs.declared.request.Request.{Request}
-use Rattle.server_model.specs.EarlierAnswers.{end_in}
-use Rattle.server_model.specs.Entries.{answer_at}
 use Rattle.plan_data.specs.PlanData.{PlanData}
-use Rattle.tool_program.proofs.JournalWords.Answers.{answer_more}
 use Rattle.tool_program.specs.declared.chunk_copier.copier.Copier.{Copier}
 use Rattle.tool_program.specs.declared.chunk_copier.copier.CopyRange.{CopyRange}
 use Rattle.tool_program.specs.declared.chunk_copier.copier.CopyStep.{CopyStep}
@@ -30,12 +27,13 @@ use Rattle.proof_migration.specs.ToolPhase.Unaltered.{IsUnaltered}
 use Rattle.proof_migration.specs.Migration.Copier.CopierPlace.{AfterReported, CopierKnows, StepKnows, copy_state, state_at_step}
 use Rattle.proof_migration.specs.Migration.Copier.Laws.{IsCopierTurn}
 use Rattle.proof_migration.specs.Program.Turns.Laws.{GoesSomehow, IsMigrationOf}
-use Rattle.proof_migration.proofs.Migration.Copier.Chunks.{same_answer, state_more, taking_state}
+use Rattle.proof_migration.proofs.Migration.Copier.Chunks.{state_more, taking_state}
 use Rattle.proof_migration.proofs.Migration.Copier.Knowing.{Asks, after_more, asks_at, low_more, step_more}
 use Rattle.proof_resume.specs.Reached.Coverage.{left_in}
 use Rattle.proof_resume.specs.Reached.ChunkEnds.{CopierRecalls, EndIsAbove, StepEnds}
 use Rattle.proof_resume.specs.Reached.Laws.{ComesFurther, ReachesRise}
 use Rattle.proof_resume.proofs.Reached.ChunkEnds.{ends_stay_above, left_shrinks}
+use Rattle.proof_resume.proofs.Reached.CopierEnds.{ends_stay, step_sized}
 use Rattle.proof_resume.proofs.Reached.CopierTurns.{copier_keeps}
 use Rattle.proof_resume.proofs.Reached.Recalling.{took_known}
 
@@ -74,14 +72,8 @@ state_sized journal one size = by one.is_copied refl where
   by true is = rw is refl
   by false is = ranged one.range refl is
 
-ends_sized : (more : List Entry) (one : Copier) (size : ℕ) (range : CopyRange) (step : CopyStep) → StepEnds more one range step → StepEnds more (resized size one) range step
-ends_sized more one size range Choosing ends = tt
-ends_sized more one size range (Spanning reported old) ends = ends
-ends_sized more one size range (Copying chunk copied) ends = ends
-ends_sized more one size range (Committing chunk) ends = ends
-
 recalls_sized : (more : List Entry) (one : Copier) (size : ℕ) → CopierRecalls more one → CopierRecalls more (resized size one)
-recalls_sized more one size recalls = record { following = recalls.following; step = recalls.step; ends = λ range is. ends_sized more one size range one.step (recalls.ends range is) }
+recalls_sized more one size recalls = record { following = recalls.following; step = recalls.step; ends = λ range is. step_sized EndIsAbove more one size range one.step (recalls.ends range is) }
 
 further_sized : (journal more : List Entry) (old one : Copier) (size : ℕ) → ComesFurther journal more old one → ComesFurther journal more old (resized size one)
 further_sized journal more old one size further =
@@ -113,21 +105,11 @@ module _ (journal : List Entry) (entry : Entry) (copier : Copier) (was : CopierR
   abbrev longer : List Entry
   longer = journal ++ entry ∷ []
 
-  later : (range : CopyRange) (end then : Row) → then ≡ end → EndIsAbove (low_end journal range copier.following) end range.top → EndIsAbove (low_end longer range copier.following) then range.top
-  later range end then same above_so =
-      subst (λ (b : Bound). EndIsAbove b then range.top) (sym (low_more journal (entry ∷ []) range copier.following was.following)) (subst (λ (k : Row). EndIsAbove (low_end journal range copier.following) k range.top) (sym same) above_so)
-
-  stays : (range : CopyRange) (step : CopyStep) → StepKnows journal copier.range step → StepEnds journal copier range step → StepEnds longer copier range step
-  stays range Choosing known above_so = tt
-  stays range (Spanning reported size) known above_so = later range (end_in (answer_at journal reported)) (end_in (answer_at longer reported)) (ap end_in (answer_more journal (entry ∷ []) reported known.0.answer known.0.is ∙ sym known.0.is)) above_so
-  stays range (Copying chunk copied) known above_so = later range (end_in (answer_at journal chunk.reported)) (end_in (answer_at longer chunk.reported)) (ap end_in (same_answer journal (entry ∷ []) copier.range chunk known.0)) above_so
-  stays range (Committing chunk) known above_so = later range (end_in (answer_at journal chunk.reported)) (end_in (answer_at longer chunk.reported)) (ap end_in (same_answer journal (entry ∷ []) copier.range chunk known)) above_so
-
   recalls_still : CopierRecalls longer copier
   recalls_still = record {
     following = after_more journal (entry ∷ []) copier.following was.following;
     step = step_more journal (entry ∷ []) copier.range copier.step was.step;
-    ends = λ range is. stays range copier.step was.step (was.ends range is);
+    ends = λ range is. ends_stay EndIsAbove journal entry copier range was.following copier.step was.step (was.ends range is);
   }
 
   -- with chunks of one row it knows as much
@@ -198,7 +180,7 @@ module _ (plan : PlanData) (m : Migration) (at : Clustered m.schema) (rows : Lis
     known_one = record { following = was.following; step = was.step; sized = some }
 
     ends_one : StepEnds journal one asked.range one.step
-    ends_one = ends_sized journal work.copier size asked.range work.copier.step (was.ends asked.range asked.is)
+    ends_one = step_sized EndIsAbove journal work.copier size asked.range work.copier.step (was.ends asked.range asked.is)
 
     same_range : (range : CopyRange) → work.copier.range ≡ Some range → asked.range ≡ range
     same_range range is = let both : Some asked.range ≡ Some range = sym asked.is ∙ is in cc

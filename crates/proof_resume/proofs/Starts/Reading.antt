@@ -1,10 +1,8 @@
 -- The row of a stored checkpoint is read back as a checkpoint that is behind the tool: what the tool writes can be read, since the key of its
 -- reach is the key of a row.
-use Rattle.base_script.specs.declared.actor.Actor.{Actor}
-use Rattle.base_script.specs.declared.actor.Actor.TheVariants.{Op, Insp, Copy, Apply, Lock, Ren, Client}
+use Rattle.base_script.specs.declared.actor.Actor.TheVariants.{Insp}
 use Rattle.table_store.specs.Databases.{find_table}
 use Rattle.server_model.specs.declared.answer.Answer.{Answer}
-use Rattle.server_model.specs.declared.answer.Answer.TheVariants as answers
 use Rattle.server_model.specs.declared.entry.Entry.{Entry}
 use Rattle.plan_data.specs.PlanData.{PlanData}
 use Rattle.proof_journals.specs.Run.Kept.{IsKept}
@@ -19,7 +17,7 @@ use Rattle.proof_migration.proofs.ToolPhase.Unaltered.Away.{all_asked, unaltered
 use Rattle.proof_migration.proofs.Program.Starts.{followers_go}
 use Rattle.proof_migration.proofs.Program.Turns.Follows.{kept_front, kept_run}
 use Rattle.proof_resume.specs.Reached.Coverage.{IsBehindTool, left_in}
-use Rattle.proof_resume.specs.Reached.ChunkEnds.{CopierRecalls, StepEnds}
+use Rattle.proof_resume.specs.Reached.ChunkEnds.{CopierRecalls}
 use Rattle.proof_resume.proofs.Reached.Copying.{reaches_rise}
 use Rattle.proof_resume.proofs.Reached.Coverage.{stays_behind}
 use Rattle.proof_resume.proofs.Reached.Noting.{notes_are_behind}
@@ -43,27 +41,24 @@ use Rattle.tool_notes.proofs.Rows.{rows_are_read}
 use Rattle.proof_resume.specs.Reached.Laws.{ComesFurther}
 use Rattle.tool_changelog.specs.declared.checkpoint.Reach.TheVariants.{All}
 use Rattle.tool_program.specs.Programs.{reach_after, reach_in, tool_call}
-use Rattle.tool_program.specs.Setups.{Setup, Listing, Clearing, MakingLog, MakingGhost, Marking, Reaching, Ready, setup_after}
-use Rattle.tool_program.specs.Tools.{ToolPhase, SettingUp, Migrating, Moment, Tool, Work, is_reverting, moment, stopped, tool_phase_of}
+use Rattle.tool_program.specs.Setups.{Setup}
+use Rattle.tool_program.specs.Tools.{ToolPhase, SettingUp, Migrating, Work, is_reverting, moment}
 use Rattle.tool_program.specs.JournalWords.Journals.{state_at}
 use Rattle.tool_program.proofs.JournalWords.Answers.{answer_more}
 use Rattle.tool_program.specs.declared.chunk_copier.copier.Copier.{Copier}
 use Rattle.tool_program.specs.declared.chunk_copier.copier.CopyRange.{CopyRange}
-use Rattle.tool_program.specs.declared.chunk_copier.copier.CopyStep.{CopyStep}
-use Rattle.tool_program.specs.declared.chunk_copier.copier.CopyStep.TheVariants.{Choosing, Spanning, Copying, Committing}
+use Rattle.tool_program.specs.declared.chunk_copier.copier.CopyStep.TheVariants.{Choosing}
 use Rattle.tool_program.specs.ChunkCopier.Copiers as copiers
 use Rattle.tool_program.specs.ChunkCopier.Copiers.{resized}
 use Rattle.proof_journals.specs.Plans.{limits_of, scene_of}
 use Rattle.proof_journals.specs.Machine.TableKeys.{CopierKeyed, IsKey, StaysWellFormed, ToolPhaseKeyed, AfterKeyed, kinds_of}
 use Rattle.proof_journals.proofs.Machine.Journals.{IsRun, IsTogether}
 use Rattle.proof_journals.proofs.Machine.Keyed.{all_keyed}
-use Rattle.proof_migration.specs.Migration.Copier.CopierPlace.{AfterReported, CopierKnows, StepKnows, IsAnsweredAt}
+use Rattle.proof_migration.specs.Migration.Copier.CopierPlace.{AfterReported, CopierKnows, IsAnsweredAt}
 use Rattle.proof_migration.specs.Migration.Copier.Laws.{IsCopierTurn}
 use Rattle.proof_migration.proofs.HeldNames.Holders.{all_held_well}
 use Rattle.proof_migration.proofs.KeptJournals.{along_of}
-use Rattle.proof_migration.proofs.Migration.Copier.Chunks.{same_answer}
 use Rattle.proof_migration.proofs.Migration.Copier.Knowing.{Asks, asks_at}
-use Rattle.proof_migration.proofs.ToolPhase.ToolPhaseTurns.{AnswerKeeps, DrainKeeps, Kept, ResizeKeeps, turn_kept}
 use Rattle.proof_plain.specs.Plain.{IsPlain, PlainRow}
 use Rattle.proof_plain.specs.Plans.{IsShort, PlainPhase, PlainPlan}
 use Rattle.proof_plain.proofs.Journals.{PlainRun, all_plain, short_front}
@@ -75,6 +70,7 @@ use Rattle.proof_resume.specs.Starts.Readings.{IsReadBehind}
 use Rattle.proof_resume.specs.Starts.Laws.{CheckpointsAreRead, FoundIsBehind}
 use Rattle.proof_resume.proofs.Reached.CopierTurns.{copier_keeps}
 use Rattle.proof_resume.proofs.Reached.Copying.{range_took}
+use Rattle.proof_resume.proofs.Reached.CopierEnds.{ends_stay, step_sized}
 use Rattle.proof_resume.proofs.Starts.Keys.{EndIsPlain, StepPlain, follows_plain, stays_plain}
 
 -- LITERALS
@@ -96,7 +92,7 @@ literal_key (kind ∷ kinds) (value ∷ key) is plain = (literal_value value kin
 -- WHAT IS KEPT
 
 pub record CopierPlain (journal : List Entry) (copier : Copier) : Type 0 where
-  pub step : (range : CopyRange) → copier.range ≡ Some range → StepPlain journal range copier.step
+  pub step : (range : CopyRange) → copier.range ≡ Some range → StepPlain journal copier range copier.step
   pub follows : (reported : ℕ) → copier.is_copied ≡ false → copier.following ≡ Some reported → PlainRow (end_in (answer_at journal reported))
 
 record Stands (journal : List Entry) (work : Work) : Type 0 where
@@ -113,7 +109,7 @@ PhaseStands journal (Migrating work) = Stands journal work
 
 new_plain : (journal : List Entry) (copier : Copier) → copier.following ≡ None → copier.step ≡ Choosing → CopierPlain journal copier
 new_plain journal copier none choosing = record {
-  step = λ range is. subst (StepPlain journal range) (sym choosing) tt;
+  step = λ range is. subst (StepPlain journal copier range) (sym choosing) tt;
   follows = λ reported going is. absurd (let no : None ≡ Some reported = sym none ∙ is in cc);
 }
 
@@ -142,15 +138,9 @@ module _ (plan : PlanData) (m : Migration) (at : Clustered m.schema) (rows : Lis
 
     -- THE COPIER
 
-    stays_step : (range : CopyRange) (step : CopyStep) → StepKnows journal work.copier.range step → StepPlain journal range step → StepPlain next range step
-    stays_step range Choosing known is = tt
-    stays_step range (Spanning reported size) known is = subst (λ (k : Row). EndIsPlain k range.top) (ap end_in (known.0.is ∙ sym (answer_more journal (entry ∷ []) reported known.0.answer known.0.is))) is
-    stays_step range (Copying chunk copied) known is = subst (λ (k : Row). EndIsPlain k range.top) (ap end_in (sym (same_answer journal (entry ∷ []) work.copier.range chunk known.0))) is
-    stays_step range (Committing chunk) known is = subst (λ (k : Row). EndIsPlain k range.top) (ap end_in (sym (same_answer journal (entry ∷ []) work.copier.range chunk known))) is
-
     still : CopierPlain next work.copier
     still = record {
-      step = λ range is. stays_step range work.copier.step was.recalls.step (was.plain.step range is);
+      step = λ range is. ends_stay (λ low. EndIsPlain) journal entry work.copier range was.recalls.following work.copier.step was.recalls.step (was.plain.step range is);
       follows = λ reported going is.
           let known : IsAnsweredAt journal reported = subst (AfterReported journal) is was.recalls.following in
           subst PlainRow (ap end_in (known.is ∙ sym (answer_more journal (entry ∷ []) reported known.answer known.is))) (was.plain.follows reported going is);
@@ -161,8 +151,8 @@ module _ (plan : PlanData) (m : Migration) (at : Clustered m.schema) (rows : Lis
       step = λ range is.
           let same : Some asks.range ≡ Some range = sym asks.is ∙ sym (range_took (length journal + 1) one entry.answer) ∙ is in
           let range_is : asks.range ≡ range = cc in
-          subst (λ (r : CopyRange). StepPlain next r (copiers.took (length journal + 1) one entry.answer).step) range_is (stays_plain m (limits_of plan) (scene_of plan next) journal entry one asks.range request turn asks.is knows (was.plain.step asks.range asks.is) plainly.state.tables);
-      follows = follows_plain m (limits_of plan) (scene_of plan next) journal entry one asks.range request turn asks.is knows (was.plain.step asks.range asks.is) plainly.state.tables was.plain.follows;
+          subst (λ (r : CopyRange). StepPlain next (copiers.took (length journal + 1) one entry.answer) r (copiers.took (length journal + 1) one entry.answer).step) range_is (stays_plain m (limits_of plan) (scene_of plan next) journal entry one asks.range request turn asks.is knows (step_sized (λ low. EndIsPlain) journal work.copier size asks.range work.copier.step (was.plain.step asks.range asks.is)) plainly.state.tables);
+      follows = follows_plain m (limits_of plan) (scene_of plan next) journal entry one asks.range request turn asks.is knows (step_sized (λ low. EndIsPlain) journal work.copier size asks.range work.copier.step (was.plain.step asks.range asks.is)) plainly.state.tables was.plain.follows;
     } where
       one : Copier
       one = resized size work.copier
@@ -175,8 +165,8 @@ module _ (plan : PlanData) (m : Migration) (at : Clustered m.schema) (rows : Lis
 
     plain_then : (then_work : Work) → (moment plan next).tool.tool_phase ≡ Migrating then_work → CopierPlain next then_work.copier
     plain_then =
-        copier_keeps plan m at rows of journal entry work kept off eq goes (CopierPlain next) still (record { step = λ range is. tt; follows = still.follows }) (λ one size is. record { step = is.step; follows = is.follows })
-        (λ one reported old size some here is. record { step = λ range at. subst (StepPlain next range) here (is.step range at); follows = is.follows }) turns
+        copier_keeps plan m at rows of journal entry work kept off eq goes (CopierPlain next) still (record { step = λ range is. tt; follows = still.follows }) (λ one size is. record { step = λ range at. step_sized (λ low. EndIsPlain) next one size range one.step (is.step range at); follows = is.follows })
+        (λ one reported old size some here is. record { step = λ range at. subst (StepPlain next one range) here (is.step range at); follows = is.follows }) turns
 
     -- THE ROW
 

@@ -16,12 +16,15 @@ use Rattle.proof_migration.specs.Migration.Copier.CopierPlace.{AfterReported, St
 abbrev pub EndIsAbove : Bound → Row → Row → Type 0
 EndIsAbove low end top = (end ≡ top) ⊎ (above low end ≡ true)
 
--- the end of the chunk, where one was answered
+-- this holds of the end of the chunk, where one was answered, by the chunk's low end and the greatest key of the range
+abbrev pub StepHolds : (Bound → Row → Row → Type 0) → List Entry → Copier → CopyRange → CopyStep → Type 0
+StepHolds Holds journal copier range Choosing = Unit {0}
+StepHolds Holds journal copier range (Spanning reported size) = Holds (low_end journal range copier.following) (end_in (answer_at journal reported)) range.top
+StepHolds Holds journal copier range (Copying chunk copied) = Holds (low_end journal range copier.following) (end_in (answer_at journal chunk.reported)) range.top
+StepHolds Holds journal copier range (Committing chunk) = Holds (low_end journal range copier.following) (end_in (answer_at journal chunk.reported)) range.top
+
 abbrev pub StepEnds : List Entry → Copier → CopyRange → CopyStep → Type 0
-StepEnds journal copier range Choosing = Unit {0}
-StepEnds journal copier range (Spanning reported size) = EndIsAbove (low_end journal range copier.following) (end_in (answer_at journal reported)) range.top
-StepEnds journal copier range (Copying chunk copied) = EndIsAbove (low_end journal range copier.following) (end_in (answer_at journal chunk.reported)) range.top
-StepEnds journal copier range (Committing chunk) = EndIsAbove (low_end journal range copier.following) (end_in (answer_at journal chunk.reported)) range.top
+StepEnds journal copier range step = StepHolds EndIsAbove journal copier range step
 
 -- *What the copier recalls*, in a revert too: the turns that it keeps were answered as it says, and its chunk ends so
 pub record CopierRecalls (journal : List Entry) (copier : Copier) : Type 0 where
