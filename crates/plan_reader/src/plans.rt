@@ -53,7 +53,8 @@ fn plan_at(alloc: Global, document: &Table) -> Result<Plan, PlanFault>
     ensures sound { IfOk result (λ plan. AllByRecursion IsSound plan.tables) }
 {
     let keys = keys_in(alloc, document)?;
-    let table = MigratedTable::new(alloc, Name::new(alloc, keys.texts.table)?)?;
+    let name = Name::new(alloc, keys.texts.table)?;
+    let table = MigratedTable::new(alloc, name)?;
     let opening = opening_of(alloc, &table, &keys)?;
     let clients = clients_of(alloc, &table, keys.texts.clients.as_slice())?;
     let orders = orders_of(alloc, clients.len() as u32, &keys.texts)?;

@@ -6,5 +6,5 @@ use Rattle.plan_reader.proofs.openings.opening_of.Goals as goal
 
 pub altered_of-requires : goal.altered_of-requires
 altered_of-requires c =
-    let sound = found_is c.args.migrated.now (database c.in_ok-tables.tables) c.in_ok-table.table.now.table c.in_ok-tables.ensures.sound c.in_ok-table.ensures.found in
+    let sound = found_is c.name.result.now (database c.in_ok-tables.tables) c.in_ok-table.table.now.table c.in_ok-tables.ensures.sound c.in_ok-table.ensures.found in
     subst IsValid (sym c.schema.ensures.schema) sound.valid
