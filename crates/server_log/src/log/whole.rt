@@ -13,7 +13,7 @@ use crate::log::counts::Counts;
 use crate::log::event_bytes::EventBytes;
 use crate::log::reading::{count_from, read_after};
 use crate::log::segments::Segments;
-use base_values::{Events, Names, RowEvent};
+use base_values::{Names, RowEvent};
 use server_model::Answer;
 use std::alloc::{AllocError, Global};
 use std::marker::Model;
@@ -119,8 +119,8 @@ impl Log {
         self.spare -= size;
     }
 
-    /// Adds events after all others.
-    fn add_all(&mut self, events: &[RowEvent])
+    /// Adds the events of a committed transaction after all others. It takes no memory.
+    pub fn append(&mut self, events: &[RowEvent])
         requires encodable { AllByRecursion IsEncodable events.now }
         requires room { bytes_of events.now ≤ self.old.spare }
         ensures events { self.new.events ≡ self.old.events ++ events.now }
@@ -129,16 +129,6 @@ impl Log {
         for event in events {
             self.add(event);
         }
-    }
-
-    /// Adds the events of a committed transaction after all others. It takes no memory.
-    pub fn append(&mut self, events: Events)
-        requires encodable { AllByRecursion IsEncodable events }
-        requires room { bytes_of events ≤ self.old.spare }
-        ensures events { self.new.events ≡ self.old.events ++ events }
-        ensures spare { self.new.spare + bytes_of events ≡ self.old.spare }
-    {
-        self.add_all(events.as_slice());
     }
 
     /// The first events of these tables at the position or after it, and where the next ones are read.

@@ -10,6 +10,7 @@ use base_values::{Name, Names, RowEvent, Sequence, Text};
 use server_log::{DecodeFault, Log, cost, decode};
 use server_model::Answer;
 use std::alloc::{AllocError, Global};
+use std::slice::from_ref;
 use test_lines::{CallFault, bytes_of, say, unsigned_of};
 
 /// The tables of one name.
@@ -20,14 +21,11 @@ fn table_of(alloc: Global, name: &str) -> Result<Names, AllocError> {
 }
 
 /// Makes room for an event and appends it.
-fn append(alloc: Global, log: &mut Log, event: RowEvent) -> Result<(), CallFault>
-    requires { IsEncodable event }
+fn append(log: &mut Log, event: &RowEvent) -> Result<(), CallFault>
+    requires { IsEncodable event.now }
 {
-    let size = cost(&event);
-    let mut events = Sequence::new(alloc);
-    events.push(event)?;
-    log.reserve(size)?;
-    log.append(events);
+    log.reserve(cost(event))?;
+    log.append(from_ref(event));
     Ok(())
 }
 
@@ -46,7 +44,7 @@ fn add(alloc: Global, log: &mut Log, input: &str) -> Result<(), CallFault> {
     let (times, bytes) = input.split_once(' ').ok_or(CallFault::Unread)?;
     let bytes = bytes_of(alloc, bytes)?;
     for _ in 0..unsigned_of(times)? {
-        append(alloc, log, event_of(alloc, bytes.as_slice())?)?;
+        append(log, &event_of(alloc, bytes.as_slice())?)?;
     }
     Ok(())
 }

@@ -1,6 +1,6 @@
 use Rattle.std.proofs.Common.{◌≡◌, ◌+◌, ◌++◌, take}
 use Rattle.server_log.specs.EventCosts.Costs.{bytes_of}
-use Rattle.server_log.proofs.log.whole.Log.add_all.Given as goal
+use Rattle.server_log.proofs.log.whole.Log.append.Given as goal
 
 -- the events so far are there, and took their room
 abbrev pub invariant-loop-event : goal.invariant-loop-event

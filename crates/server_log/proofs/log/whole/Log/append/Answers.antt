@@ -2,7 +2,7 @@ use Rattle.std.proofs.Common.{◌<◌, length, ◌∙◌, arith}
 use Rattle.server_log.specs.Encodings.{IsEncodable}
 use Rattle.server_log.proofs.EventCosts.Sums.{bytes_more, bytes_whole, bytes_within}
 use Rattle.server_log.proofs.Lists.{all_at, pushed_more, taken_whole}
-use Rattle.server_log.proofs.log.whole.Log.add_all.Goals as goal
+use Rattle.server_log.proofs.log.whole.Log.append.Goals as goal
 
 pub add-requires-clause-encodable : goal.add-requires-clause-encodable
 add-requires-clause-encodable c = all_at IsEncodable c.args.events.now c.loop-event.event-index c.event-item.result (omega arith) c.event-item.is c.requires.encodable
