@@ -4,8 +4,8 @@
 #![tactic(auto)]
 
 mod counters;
+mod events_size;
 mod grant;
-mod growth;
 mod live_session;
 pub mod live_sessions;
 mod lookup;
@@ -14,7 +14,8 @@ mod sessions;
 mod waits;
 
 pub use counters::{counters_renamed, counters_with, counters_without, next_of, raise};
+pub use events_size::EventsSize;
 pub use live_session::LiveSession;
-pub use lookup::{is_in_transaction, is_live, is_of_tool, polls_of, writes_of};
+pub use lookup::{bytes_written, is_in_transaction, is_live, is_of_tool, polls_of};
 pub use sessions::{connect, count_polls, disconnect, hold, lock_tables, rest, unlock_tables};
 pub use waits::{begin_wait, end_wait, is_waiting, waiting_of};

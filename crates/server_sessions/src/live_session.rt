@@ -1,22 +1,21 @@
 //! What is kept of one live session, and how each call changes it.
 
 ghost use Rattle.std.specs.Prelude.{◌≡◌, ◌==◌, OnOk, OnErr};
+ghost use Rattle.server_log.specs.EventCosts.Costs.{bytes_of};
 ghost use Rattle.server_sessions.specs.LiveSessions.KeptSessions.{kept_at_rest, kept_counting, kept_holding, kept_locking, kept_unlocking, new_kept};
 
+use crate::events_size::EventsSize;
 use crate::grant::{Grant, keep_exclusive, keep_shared};
-use crate::growth::append;
-use base_values::{Events, RowEvent, Sequence};
 use std::alloc::{AllocError, Global};
 use std::marker::Model;
-use std::mem;
 
-/// A live session, with a grant in place of each name that it holds, and without row locks: the tables of all locks alone have
-/// those.
+/// A live session, with a grant in place of each name that it holds, and without row locks, which the tables of all locks alone
+/// have. Of what it wrote it has the size: the storage has the events.
 pub struct LiveSession {
     number: u32,
     is_tool: bool,
     in_transaction: bool,
-    writes: Events,
+    writes: EventsSize,
     granted: Vec<Grant>,
     polls: u32,
 }
@@ -54,7 +53,7 @@ impl LiveSession {
             number,
             is_tool,
             in_transaction: false,
-            writes: Sequence::new(alloc),
+            writes: EventsSize::new(alloc),
             granted: Vec::new(alloc),
             polls: 0,
         }
@@ -81,11 +80,11 @@ impl LiveSession {
         self.in_transaction
     }
 
-    /// What its transaction wrote so far.
-    pub fn writes(&self) -> &[RowEvent]
-        ensures { result.now ≡ self.now.writes }
+    /// How many bytes what its transaction wrote takes in the log.
+    pub fn bytes_written(&self) -> u64
+        ensures { result ≡ bytes_of self.now.writes }
     {
-        self.writes.as_slice()
+        self.writes.bytes()
     }
 
     /// How often its waiting request was polled.
@@ -100,34 +99,26 @@ impl LiveSession {
         &mut self,
         alloc: Global,
         grants: Vec<Grant>,
-        events: Events,
+        events: &EventsSize,
     ) -> Result<(), AllocError>
-        ensures ok { OnOk result (self.new ≡ kept_holding grants.items events self.old) }
+        ensures ok { OnOk result (self.new ≡ kept_holding grants.items events.now self.old) }
         ensures err { OnErr result (self.new ≡ self.old) }
     {
-        let granted = self.granted.len();
+        let writes = self.writes.plus(alloc, events)?;
         let mut grants = grants;
         self.granted.append(&mut grants)?;
-        match append(alloc, &mut self.writes, events) {
-            Ok(()) => {
-                self.in_transaction = true;
-                Ok(())
-            }
-            Err(error) => {
-                self.granted.truncate(granted);
-                Err(error)
-            }
-        }
+        self.writes = writes;
+        self.in_transaction = true;
+        Ok(())
     }
 
-    /// It is outside a transaction. What it wrote is given.
-    pub fn rest(&mut self, alloc: Global) -> Events
-        ensures session { self.new ≡ kept_at_rest self.old }
-        ensures writes { result ≡ self.old.writes }
+    /// It is outside a transaction, and wrote nothing.
+    pub fn rest(&mut self, alloc: Global)
+        ensures { self.new ≡ kept_at_rest self.old }
     {
         keep_exclusive(&mut self.granted);
         self.in_transaction = false;
-        mem::replace(&mut self.writes, Sequence::new(alloc))
+        self.writes = EventsSize::new(alloc);
     }
 
     /// It was granted these too; all is as before where there is no memory.

@@ -2,10 +2,10 @@
 
 ghost use Rattle.std.specs.Prelude.{◌≡◌, ◌==◌, [], false, is_some, option_copied, position, unwrap_or};
 ghost use Rattle.std.specs.Option.{option_map};
+ghost use Rattle.server_log.specs.EventCosts.Costs.{bytes_of};
 ghost use Rattle.server_sessions.specs.LiveSessions.KeptSessions.{kept_of};
 
 use crate::live_session::LiveSession;
-use base_values::RowEvent;
 
 /// The place of the session of this number.
 pub fn place_of(sessions: &[LiveSession], number: u32) -> Option<usize>
@@ -60,12 +60,12 @@ pub fn polls_of(sessions: &[LiveSession], number: u32) -> u32
     }
 }
 
-/// What the session's transaction wrote so far.
-pub fn writes_of(sessions: &[LiveSession], number: u32) -> &[RowEvent]
-    ensures { result.now ≡ unwrap_or (option_map (λ session. session.writes) (kept_of number sessions.now)) [] }
+/// How many bytes what the session's transaction wrote takes in the log.
+pub fn bytes_written(sessions: &[LiveSession], number: u32) -> u64
+    ensures { result ≡ bytes_of (unwrap_or (option_map (λ session. session.writes) (kept_of number sessions.now)) []) }
 {
     match session_of(sessions, number) {
-        Some(session) => session.writes(),
-        None => &[],
+        Some(session) => session.bytes_written(),
+        None => 0,
     }
 }

@@ -1,13 +1,13 @@
 //! What a call changes of what is kept of its session.
 
-ghost use Rattle.std.specs.Prelude.{◌≡◌, ◌==◌, ◌++◌, [], ◌∷◌, true, false, not, filter, map, unwrap_or, OnOk, OnErr};
-ghost use Rattle.std.specs.Option.{option_map};
-ghost use Rattle.server_sessions.specs.LiveSessions.KeptSessions.{grant_of, kept_at_rest, kept_counting, kept_holding, kept_locking, kept_of, kept_unlocking, new_kept, with_kept};
+ghost use Rattle.std.specs.Prelude.{◌≡◌, ◌==◌, ◌++◌, [], ◌∷◌, true, false, not, filter, map, OnOk, OnErr};
+ghost use Rattle.server_sessions.specs.LiveSessions.KeptSessions.{grant_of, kept_at_rest, kept_counting, kept_holding, kept_locking, kept_unlocking, new_kept, with_kept};
 
+use crate::events_size::EventsSize;
 use crate::grant::grants_of;
 use crate::live_session::LiveSession;
 use crate::lookup::place_of;
-use base_values::{Events, Names, Sequence};
+use base_values::Names;
 use server_locks::metadata_locks::MetaLocks;
 use std::alloc::{AllocError, Global};
 
@@ -40,9 +40,9 @@ pub fn hold(
     table: &MetaLocks,
     number: u32,
     names: &Names,
-    events: Events,
+    events: &EventsSize,
 ) -> Result<(), AllocError>
-    ensures ok { OnOk result (sessions.new.items ≡ with_kept number (kept_holding (map (grant_of table.now.held number false) names.now) events) sessions.old.items) }
+    ensures ok { OnOk result (sessions.new.items ≡ with_kept number (kept_holding (map (grant_of table.now.held number false) names.now) events.now) sessions.old.items) }
     ensures err { OnErr result (sessions.new.items ≡ sessions.old.items) }
 {
     let grants = grants_of(alloc, table, number, names.as_slice(), false)?;
@@ -52,14 +52,12 @@ pub fn hold(
     }
 }
 
-/// The session's transaction is over: its shared names are free. What it wrote is given.
-pub fn rest(alloc: Global, sessions: &mut Vec<LiveSession>, number: u32) -> Events
-    ensures sessions { sessions.new.items ≡ with_kept number kept_at_rest sessions.old.items }
-    ensures writes { result ≡ unwrap_or (option_map (λ session. session.writes) (kept_of number sessions.old.items)) [] }
+/// The session's transaction is over: its shared names are free.
+pub fn rest(alloc: Global, sessions: &mut Vec<LiveSession>, number: u32)
+    ensures { sessions.new.items ≡ with_kept number kept_at_rest sessions.old.items }
 {
-    match place_of(sessions.as_slice(), number) {
-        Some(place) => sessions[place].rest(alloc),
-        None => Sequence::new(alloc),
+    if let Some(place) = place_of(sessions.as_slice(), number) {
+        sessions[place].rest(alloc);
     }
 }
 

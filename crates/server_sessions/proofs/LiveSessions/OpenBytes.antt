@@ -1,5 +1,5 @@
 -- In how many bytes the events of open transactions are encoded, while sessions change; and that all of them are.
-use Rattle.std.proofs.Common.{◌≡◌, ℕ, ◌+◌, ◌≤◌, Bool, true, false, not, List, [], ◌∷◌, ◌++◌, length, filter, cond, Some, refl, ap, arith}
+use Rattle.std.proofs.Common.{◌≡◌, ℕ, ◌+◌, ◌≤◌, Bool, true, false, List, [], ◌∷◌, ◌++◌, length, filter, cond, Some, refl, ap, arith}
 use Rattle.std.specs.Prelude.{◌==◌}
 use Rattle.std.specs.List.{AllByRecursion}
 use Rattle.std.proofs.lemmas.List.Sums.{sum_by-append}
@@ -46,25 +46,14 @@ rest_room number (first ∷ sessions) = at (first.number == number) (rest_room n
   at true rest = omega arith
   at false rest = omega (arith, rest)
 
-less_room : (test : Session → Bool) (sessions : List Session) → open_bytes (filter test sessions) ≤ open_bytes sessions
+-- fewer sessions wrote no more
+pub less_room : (test : Session → Bool) (sessions : List Session) → open_bytes (filter test sessions) ≤ open_bytes sessions
 unfolding open_bytes
 less_room test [] = omega arith
 less_room test (first ∷ sessions) = at (test first) (less_room test sessions) where
   at : (b : Bool) → open_bytes (filter test sessions) ≤ open_bytes sessions → open_bytes (cond b (first ∷ filter test sessions) (filter test sessions)) ≤ bytes_of first.writes + open_bytes sessions
   at true rest = omega (arith, rest)
   at false rest = omega (arith, rest)
-
--- without a session there is room for what it wrote
-pub lost_room : (number : ℕ) (sessions : List Session) → bytes_of (writes_of (session_of number sessions)) + open_bytes (filter (λ session. not (session.number == number)) sessions) ≤ open_bytes sessions
-unfolding open_bytes
-lost_room number [] = omega arith
-lost_room number (first ∷ sessions) = at (first.number == number) (lost_room number sessions) (less_room (λ session. not (session.number == number)) sessions) where
-  at : (b : Bool) → bytes_of (writes_of (session_of number sessions)) + open_bytes (filter (λ session. not (session.number == number)) sessions) ≤ open_bytes sessions
-      → open_bytes (filter (λ session. not (session.number == number)) sessions) ≤ open_bytes sessions
-      → bytes_of (writes_of (cond b (Some first) (session_of number sessions))) + open_bytes (cond (not b) (first ∷ filter (λ session. not (session.number == number)) sessions) (filter (λ session. not (session.number == number)) sessions))
-      ≤ bytes_of first.writes + open_bytes sessions
-  at true rest fewer = omega (arith, fewer)
-  at false rest fewer = omega (arith, rest)
 
 pub joined_room : (number : ℕ) (is_tool : Bool) (sessions : List Session) → open_bytes (sessions ++ new_session number is_tool ∷ []) ≡ open_bytes sessions
 unfolding open_bytes

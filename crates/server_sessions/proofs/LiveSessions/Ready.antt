@@ -12,7 +12,7 @@ use Rattle.server_model.specs.PlainServer.{at_rest, counting, holding, limit_if}
 use Rattle.server_model.specs.States.{is_of_tool, new_session, session_of, with_session, writes_of}
 use Rattle.server_sessions.specs.LiveSessions.Rooms.{open_bytes, IsReady}
 use Rattle.server_sessions.specs.LiveSessions.SessionLists.{NumberedSessions}
-use Rattle.server_sessions.proofs.LiveSessions.OpenBytes.{same_room, more_room, rest_room, lost_room, joined_room, same_encodable, more_encodable, rest_encodable, lost_encodable, joined_encodable, own_encodable}
+use Rattle.server_sessions.proofs.LiveSessions.OpenBytes.{same_room, more_room, rest_room, less_room, joined_room, same_encodable, more_encodable, rest_encodable, lost_encodable, joined_encodable, own_encodable}
 use Rattle.server_sessions.proofs.LiveSessions.Polls.{same_polls, counted_polls, limit_some, less_polls, joined_polls}
 
 -- a transaction is over: the room for what it wrote is taken, or given back
@@ -78,13 +78,13 @@ ready_counts limits number count sessions spare less ready =
 pub ready_waits : (limits : Limits) (number : ℕ) (sessions : List Session) (spare : ℕ) → IsReady limits sessions spare → IsReady limits (with_session number (counting 0) sessions) spare
 ready_waits limits number sessions spare ready = ready_counts limits number 0 sessions spare (limit_some limits (is_of_tool (session_of number sessions)) ready.clients ready.tools) ready
 
--- a session is lost, and the room for what it wrote is given back
-pub ready_less : (limits : Limits) (number : ℕ) (sessions : List Session) (spare left : ℕ) → IsReady limits sessions spare → spare ≤ left + bytes_of (writes_of (session_of number sessions)) → IsReady limits (filter (λ session. not (session.number == number)) sessions) left
-ready_less limits number sessions spare left ready room =
+-- a session is lost
+pub ready_less : (limits : Limits) (number : ℕ) (sessions : List Session) (spare : ℕ) → IsReady limits sessions spare → IsReady limits (filter (λ session. not (session.number == number)) sessions) spare
+ready_less limits number sessions spare ready =
     let test : Session → Bool = λ session. not (session.number == number) in
-    let less : bytes_of (writes_of (session_of number sessions)) + open_bytes (filter test sessions) ≤ open_bytes sessions = lost_room number sessions in
+    let less : open_bytes (filter test sessions) ≤ open_bytes sessions = less_room test sessions in
     record {
-      room = omega (arith, ready.room, less, room);
+      room = omega (arith, ready.room, less);
       encodable = lost_encodable test sessions ready.encodable;
       clients = ready.clients;
       tools = ready.tools;

@@ -11,8 +11,8 @@ use Rattle.server_locks.specs.RowLocks.SameLocks.{HasLock}
 use Rattle.server_locks.proofs.LeastSession.Kept.{both, kept}
 use Rattle.server_model.specs.declared.session.Session.{Session}
 use Rattle.server_model.specs.declared.session.Waiting.{Waiting}
-use Rattle.server_model.specs.PlainServer.{at_rest}
-use Rattle.server_model.specs.States.{new_session, session_of, with_session}
+use Rattle.server_model.specs.PlainServer.{at_rest, forgets, loses, without_waiting}
+use Rattle.server_model.specs.States.{State, new_session, session_of, with_session}
 use Rattle.server_model.proofs.LockedRows.Tests.{are_one}
 use Rattle.server_sessions.specs.LiveSessions.SessionLists.{AreOwned, Differ, NumberedSessions}
 use Rattle.server_sessions.proofs.LiveSessions.HeldNames.{changed_of, left_of, other_of}
@@ -159,6 +159,23 @@ not_live number change (session ∷ sessions) none = at (session.number == numbe
 
 pub unchanged : (number : ℕ) (change : Session → Session) (list : NumberedSessions) → is_some (session_of number list.sessions) ≡ false → list ≡ record list { sessions = with_session number change list.sessions }
 unchanged number change list none = ap (λ (sessions : List Session). record list { sessions = sessions }) (not_live number change list.sessions none)
+
+-- a session is gone, whether its transaction was over before or not
+pub without_rested : (number : ℕ) (sessions : List Session) → filter (λ (session : Session). not (session.number == number)) (with_session number at_rest sessions) ≡ filter (λ (session : Session). not (session.number == number)) sessions
+unfolding with_session
+without_rested number [] = refl
+without_rested number (session ∷ sessions) = at (session.number == number) refl (without_rested number sessions) where
+  others : List Session → List Session
+  others all = filter (λ (one : Session). not (one.number == number)) all
+
+  at : (b : Bool) → (session.number == number) ≡ b → others (with_session number at_rest sessions) ≡ others sessions → others (cond b (at_rest session ∷ sessions) (session ∷ with_session number at_rest sessions)) ≡ others (session ∷ sessions)
+  at true is rest = rw is refl
+  at false is rest = rw is (ap (λ (all : List Session). session ∷ all) rest)
+
+-- a session is lost: its wait is over, its transaction is forgotten, and it is gone
+pub loses_so : (number : ℕ) (state waits rests : State) → waits ≡ without_waiting number state → rests ≡ forgets number waits → record rests { sessions = filter (λ (session : Session). not (session.number == number)) rests.sessions } ≡ loses number state
+unfolding loses
+loses_so number state waits rests is was = rw (was, is) (ap (λ (all : List Session). record (without_waiting number state) { sessions = all }) (without_rested number state.sessions))
 
 -- the list that is so kept
 abbrev listed : ℕ → List Session → List Waiting → NumberedSessions

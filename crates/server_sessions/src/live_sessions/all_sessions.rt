@@ -1,8 +1,8 @@
 //! Sessions, requests that wait, and the log.
 
-ghost use Rattle.std.specs.Prelude.{◌≡◌, ◌<◌, ◌≤◌, ◌+◌, ◌++◌, [], ◌∷◌, true, is_some, length, count_by, drop, option_copied, IfOk, OnOk, OnErr};
-ghost use Rattle.std.specs.List.{AllByRecursion, list_any};
-ghost use Rattle.server_model.specs.States.{counter_of, counters_renamed, counters_without, next_of, opened, connected, passed, session_of, with_session, is_live, is_in_transaction, is_of_tool, is_waiting, holds_tables, waiting_of, unread, is_exclusive, names_in};
+ghost use Rattle.std.specs.Prelude.{◌≡◌, ◌<◌, ◌≤◌, ◌+◌, ◌++◌, [], ◌∷◌, length, drop, option_copied, IfOk, OnOk, OnErr};
+ghost use Rattle.std.specs.List.{AllByRecursion};
+ghost use Rattle.server_model.specs.States.{counter_of, counters_renamed, counters_without, next_of, opened, connected, passed, session_of, with_session, writes_of, is_live, is_in_transaction, is_of_tool, is_waiting, holds_tables, waiting_of, unread, is_exclusive, names_in};
 ghost use Rattle.server_model.specs.Blockers.{blocker};
 ghost use Rattle.server_model.specs.Listings.{events_read, waits_shown};
 ghost use Rattle.server_model.specs.Effects.{is_outside};
@@ -12,14 +12,15 @@ ghost use Rattle.server_sessions.specs.LiveSessions.CounterMoves.{drawn_in_move,
 ghost use Rattle.server_sessions.specs.LiveSessions.Rooms.{logs};
 
 use crate::live_sessions::counter_moves::{CounterMove, after_drawn, after_given, drawn_by};
-use crate::live_sessions::room::{give_back, make_room};
+use crate::live_sessions::room::make_room;
 use crate::live_sessions::session_list::SessionList;
 use crate::session_locks::{is_exclusive, names_in, waits_shown};
 use crate::{
-    counters_renamed, counters_with, counters_without, is_waiting, next_of, raise, waiting_of,
+    EventsSize, counters_renamed, counters_with, counters_without, is_waiting, next_of, raise,
+    waiting_of,
 };
 use base_values::gho_schema::Schema;
-use base_values::{Events, Name, Names, Sequence};
+use base_values::{Name, Names, RowEvent};
 use server_locks::least_session::least;
 use server_locks::row_locks::{Lock, LockSet};
 use server_log::Log;
@@ -130,8 +131,7 @@ impl Sessions {
         ensures { self.new ≡ loses session self.old }
     {
         self.sessions.end_wait(session);
-        let writes = self.sessions.writes_of(session);
-        give_back(&mut self.log, writes);
+        self.forget(session);
         self.sessions.disconnect(session);
     }
 
@@ -142,15 +142,16 @@ impl Sessions {
         session: u32,
         request: &Request,
         locks: LockSet,
-        events: Events,
+        events: &[RowEvent],
     ) -> Result<(), AllocError>
-        requires { AllByRecursion IsTableEvent events }
-        ensures ok { OnOk result (self.new ≡ goes_on session (record { exclusive = is_exclusive request.now; names = names_in request.now; locks = locks }) events self.old) }
+        requires { AllByRecursion IsTableEvent events.now }
+        ensures ok { OnOk result (self.new ≡ goes_on session (record { exclusive = is_exclusive request.now; names = names_in request.now; locks = locks }) events.now self.old) }
         ensures err { OnErr result (self.new ≡ self.old) }
     {
         let need = need_of(self.alloc, request, locks)?;
-        let room = make_room(&mut self.log, events.as_slice())?;
-        match self.sessions.hold(self.alloc, session, need, events) {
+        let room = make_room(&mut self.log, events)?;
+        let size = EventsSize::of(self.alloc, events, room);
+        match self.sessions.hold(self.alloc, session, need, &size) {
             Ok(()) => Ok(()),
             Err(error) => {
                 self.log.release(room);
@@ -160,23 +161,30 @@ impl Sessions {
     }
 
     /// What the session wrote is logged, and its transaction is over.
-    pub fn commit(&mut self, session: u32)
+    pub fn commit(&mut self, session: u32, writes: &[RowEvent])
+        requires { writes.now ≡ writes_of (session_of session self.old.sessions) }
         ensures { self.new ≡ logs session [] self.old }
     {
-        let writes = self.sessions.rest(self.alloc, session);
         self.log.append(writes);
+        self.sessions.rest(self.alloc, session);
     }
 
     /// What the session wrote is logged with these events, and its transaction is over.
-    pub fn commit_with(&mut self, session: u32, events: Events) -> Result<(), AllocError>
-        requires { AllByRecursion IsTableEvent events }
-        ensures ok { OnOk result (self.new ≡ logs session events self.old) }
+    pub fn commit_with(
+        &mut self,
+        session: u32,
+        writes: &[RowEvent],
+        events: &[RowEvent],
+    ) -> Result<(), AllocError>
+        requires writes { writes.now ≡ writes_of (session_of session self.old.sessions) }
+        requires events { AllByRecursion IsTableEvent events.now }
+        ensures ok { OnOk result (self.new ≡ logs session events.now self.old) }
         ensures err { OnErr result (self.new ≡ self.old) }
     {
-        let _ = make_room(&mut self.log, events.as_slice())?;
-        let writes = self.sessions.rest(self.alloc, session);
+        let _ = make_room(&mut self.log, events)?;
         self.log.append(writes);
         self.log.append(events);
+        self.sessions.rest(self.alloc, session);
         Ok(())
     }
 
@@ -184,8 +192,9 @@ impl Sessions {
     pub fn forget(&mut self, session: u32)
         ensures { self.new ≡ forgets session self.old }
     {
-        let writes = self.sessions.rest(self.alloc, session);
-        give_back(&mut self.log, writes.as_slice());
+        let bytes = self.sessions.bytes_written(session);
+        self.log.release(bytes);
+        self.sessions.rest(self.alloc, session);
     }
 
     /// The session holds these names exclusively too (LOCK TABLES).

@@ -1,6 +1,6 @@
 //! Room in the log for the events of all open transactions, so that a commit takes no memory.
 
-ghost use Rattle.std.specs.Prelude.{◌≡◌, ◌≤◌, ◌+◌, IfOk, OnOk, OnErr};
+ghost use Rattle.std.specs.Prelude.{◌≡◌, ◌+◌, IfOk, OnOk, OnErr};
 ghost use Rattle.std.specs.List.{AllByRecursion};
 ghost use Rattle.server_log.specs.Encodings.{IsEncodable};
 ghost use Rattle.server_log.specs.EventCosts.Costs.{bytes_of};
@@ -8,7 +8,7 @@ ghost use Rattle.server_log.specs.EventCosts.TableEvents.{IsTableEvent};
 
 use base_values::RowEvent;
 use server_log::Log;
-use server_log::event_costs::{cost, encoded_size};
+use server_log::event_costs::encoded_size;
 use std::alloc::AllocError;
 
 /// Makes room for these events besides, and says for how many bytes.
@@ -24,16 +24,4 @@ pub fn make_room(log: &mut Log, events: &[RowEvent]) -> Result<u64, AllocError>
     let room = log.spare().checked_add(more).ok_or(AllocError)?;
     log.reserve(room)?;
     Ok(more)
-}
-
-/// Gives back the room for these events.
-pub fn give_back(log: &mut Log, events: &[RowEvent])
-    requires encodable { AllByRecursion IsEncodable events.now }
-    requires room { bytes_of events.now ≤ log.old.spare }
-    ensures events { log.new.events ≡ log.old.events }
-    ensures spare { log.new.spare + bytes_of events.now ≡ log.old.spare }
-{
-    // For the prover: that the room is a number of 64 bits, so that the cost is no less than the bytes.
-    let _room = log.spare();
-    log.release(cost(events));
 }

@@ -5,16 +5,17 @@ ghost use Rattle.server_locks.specs.RowLocks.Grants.{blocker_of_set};
 ghost use Rattle.server_locks.specs.RowLocks.LockTable.{granted};
 ghost use Rattle.server_locks.specs.MetadataLocks.Grants.{blocker_of_names};
 ghost use Rattle.server_locks.specs.MetadataLocks.LockTable as name_table;
+ghost use Rattle.server_log.specs.EventCosts.Costs.{bytes_of};
 ghost use Rattle.server_model.specs.States.{holds_tables, is_exclusive, is_in_transaction, is_of_tool, locks_held, names_held, names_in, polls_of, waiters, new_session, session_of, with_session, writes_of};
 ghost use Rattle.server_model.specs.Effects.{is_outside};
 ghost use Rattle.server_model.specs.PlainServer.{at_rest, counting, holding, locking, unlocking};
 
 use crate::session_locks::{is_exclusive, is_outside, names_blocker, names_in};
 use crate::{
-    LiveSession, begin_wait, connect, count_polls, disconnect, end_wait, hold, is_in_transaction,
-    is_live, is_of_tool, lock_tables, polls_of, rest, unlock_tables, writes_of,
+    EventsSize, LiveSession, begin_wait, bytes_written, connect, count_polls, disconnect, end_wait,
+    hold, is_in_transaction, is_live, is_of_tool, lock_tables, polls_of, rest, unlock_tables,
 };
-use base_values::{Events, Names, RowEvent};
+use base_values::Names;
 use server_locks::metadata_locks::MetaLocks;
 use server_locks::row_locks::{Lock, LockSet, RowLocks};
 use server_model::{Need, Request, Waiting};
@@ -133,11 +134,11 @@ impl SessionList {
         polls_of(self.sessions.as_slice(), number)
     }
 
-    /// What the session's transaction wrote so far.
-    pub fn writes_of(&self, number: u32) -> &[RowEvent]
-        ensures { result.now ≡ writes_of (session_of number self.now.sessions) }
+    /// How many bytes what the session's transaction wrote takes in the log.
+    pub fn bytes_written(&self, number: u32) -> u64
+        ensures { result ≡ bytes_of (writes_of (session_of number self.now.sessions)) }
     {
-        writes_of(self.sessions.as_slice(), number)
+        bytes_written(self.sessions.as_slice(), number)
     }
 
     /// Whether the session holds LOCK TABLES and the request names a table that it hasn't locked.
@@ -216,9 +217,9 @@ impl SessionList {
         alloc: Global,
         number: u32,
         need: Need,
-        events: Events,
+        events: &EventsSize,
     ) -> Result<(), AllocError>
-        ensures ok { OnOk result (self.new ≡ record self.old { sessions = with_session number (holding need events) self.old.sessions }) }
+        ensures ok { OnOk result (self.new ≡ record self.old { sessions = with_session number (holding need events.now) self.old.sessions }) }
         ensures err { OnErr result (self.new ≡ self.old) }
     {
         if !is_live(self.sessions.as_slice(), number) {
@@ -247,14 +248,13 @@ impl SessionList {
         }
     }
 
-    /// The session's transaction is over: its row locks and shared names are free. What it wrote is given.
-    pub fn rest(&mut self, alloc: Global, number: u32) -> Events
-        ensures sessions { self.new ≡ record self.old { sessions = with_session number at_rest self.old.sessions } }
-        ensures writes { result ≡ writes_of (session_of number self.old.sessions) }
+    /// The session's transaction is over: its row locks and shared names are free.
+    pub fn rest(&mut self, alloc: Global, number: u32)
+        ensures { self.new ≡ record self.old { sessions = with_session number at_rest self.old.sessions } }
     {
         self.locks.free(number);
         self.names.let_go(number, false);
-        rest(alloc, &mut self.sessions, number)
+        rest(alloc, &mut self.sessions, number);
     }
 
     /// The session holds these names exclusively too; all is as before where there is no memory.
