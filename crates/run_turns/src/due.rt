@@ -52,7 +52,8 @@ fn lost_in_turn(run_state: &RunState<'_>, next: NextAsked<'_>, lost: LostCall) -
     requires lost { lost_in what ≡ Some lost }
     ensures { result ≡ what }
 {
-    let _ = (run_state, next);
+    let _ = run_state;
+    let _ = next;
     TurnAsked::lost(lost)
 }
 
