@@ -119,10 +119,10 @@ run_state_counts plan journal run_state sessions server counts run loads busies 
 
 -- THE TURN MAY BE TAKEN
 
-pub may_turn : (plan : PlanData) (journal : List Entry) (run_state : RunState) (sessions : ℕ) (server : State) (turn : Turn) → IsRun plan journal run_state sessions server → IsDue plan journal turn → is_command turn.asked ≡ false → sessions ≤ 4294967295 → (live_session journal turn.actor ≡ None → server.made < 4294967295)
+pub may_turn : (plan : PlanData) (journal : List Entry) (run_state : RunState) (sessions : ℕ) (server : State) (turn : Turn) → IsRun plan journal run_state sessions server → IsDue plan journal turn → is_command turn.asked ≡ false → server.made ≤ 4294967295 → (live_session journal turn.actor ≡ None → server.made < 4294967295)
     → MayTurn server (live_session journal turn.actor) turn
 may_turn plan journal run_state sessions server turn run due_so called few less =
-    turns_may_be plan journal server due_so.actor turn run.runs run.kept run.server (omega (arith, few, run.made)) less due_so.is called
+    turns_may_be plan journal server due_so.actor turn run.runs run.kept run.server few less due_so.is called
 
 -- THE ENTRY
 

@@ -36,9 +36,10 @@ returns-then-is_command-clause-ok g c =
 
 pub take_turn-requires-clause-may : goal.take_turn-requires-clause-may
 take_turn-requires-clause-may g c =
-    let few : c.args.sessions.now ≤ 4294967295 = search rules in
+    let few : c.made-made.result ≤ 4294967295 = search rules in
     rw c.session-session.ensures
-    (may_turn c.args.run_state.now.plan.now c.args.run_state.now.journal.items c.args.run_state.now c.args.sessions.now (g.V.Serve.state c.args.server.now) c.args.turn c.requires.run c.requires.due (sym c.is_command.ensures ∙ c.if-is_command.false) few
+    (may_turn c.args.run_state.now.plan.now c.args.run_state.now.journal.items c.args.run_state.now c.args.sessions.now (g.V.Serve.state c.args.server.now) c.args.turn c.requires.run c.requires.due (sym c.is_command.ensures ∙ c.if-is_command.false)
+    (subst (λ (n : ℕ). n ≤ 4294967295) c.made-made.ensures few)
     (λ none. subst (λ (n : ℕ). n < 4294967295) c.made-made.ensures (c.is_last.ensures.left c.if-is_last.false (c.session-session.ensures ∙ none))))
 
 pub take_turn-requires-clause-counts : goal.take_turn-requires-clause-counts
