@@ -109,14 +109,17 @@ pub command_left : (state : State) (number : ℕ) (word : OperatorWord) → stat
 unfolding counted
 command_left state number word = refl
 
-pub commanded_left : (state : State) (number : ℕ) (side : Option Side) (asked : Asked) (word : OperatorWord) → side ≡ None → asked ≡ Command word → state ≡ state_left side state number asked
-commanded_left state number side asked word none asks =
-    command_left state number word ∙ ap (λ (a : Asked). state_left None state number a) (sym asks) ∙ ap (λ (s : Option Side). state_left s state number asked) (sym none)
+pub commanded_left : (state : State) (number : ℕ) (side : Option Side) (shown asked : Asked) (word : OperatorWord) → side ≡ None → shown ≡ asked → shown ≡ Command word → state ≡ state_left side state number asked
+commanded_left state number side shown asked word none is asks =
+    command_left state number word ∙ ap (λ (a : Asked). state_left None state number a) (sym asks ∙ is) ∙ ap (λ (s : Option Side). state_left s state number asked) (sym none)
 
 -- what is lost before it is done leaves what a loss between calls leaves
 pub left_before : (state : State) (number : ℕ) (asked : Asked) → state_left (Some Before) state number asked ≡ loses number state
 unfolding loses
 left_before state number asked = refl
+
+pub lost_left : (state after : State) (number : ℕ) (side : Option Side) (asked : Asked) → side ≡ Some Before → after ≡ loses number state → after ≡ state_left side state number asked
+lost_left state after number side asked lost is = is ∙ sym (left_before state number asked) ∙ ap (λ (s : Option Side). state_left s state number asked) (sym lost)
 
 pub given_before : (asked : Asked) (answer : Answer) → given_at (Some Before) asked answer ≡ None
 given_before Cut answer = refl

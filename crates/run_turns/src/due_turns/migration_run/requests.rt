@@ -82,7 +82,7 @@ fn lose_at_once<V: Serve>(server: &mut V, session: u32) -> Heard
 }
 
 /// Asks in the session, which may be lost in the turn. Where there is no memory, the server is as before.
-#[tactic(auto, using(crate::proofs::DueTurns::MigrationRun::Costs::unless_free, crate::proofs::DueTurns::MigrationRun::Costs::lost_costs, crate::proofs::DueTurns::MigrationRun::Connecting::lost_live, crate::proofs::DueTurns::MigrationRun::Connecting::cut_left, crate::proofs::DueTurns::MigrationRun::Connecting::left_before, crate::proofs::DueTurns::MigrationRun::Connecting::given_before, crate::proofs::DueTurns::MigrationRun::Connecting::drawn_before))]
+#[tactic(auto, using(crate::proofs::DueTurns::MigrationRun::Costs::unless_free, crate::proofs::DueTurns::MigrationRun::Costs::lost_costs, crate::proofs::DueTurns::MigrationRun::Connecting::lost_live, crate::proofs::DueTurns::MigrationRun::Connecting::cut_left, crate::proofs::DueTurns::MigrationRun::Connecting::commanded_left, crate::proofs::DueTurns::MigrationRun::Connecting::lost_left, crate::proofs::DueTurns::MigrationRun::Connecting::given_before, crate::proofs::DueTurns::MigrationRun::Connecting::drawn_before))]
 pub fn ask<V: Serve>(
     server: &mut V,
     session: u32,
