@@ -19,13 +19,12 @@ use Rattle.server_transaction.proofs.SaidEvents.{said_fits}
 use Rattle.run_auditor.specs.AloneSessions.{IsAlone}
 
 -- the work that a statement prepared gives what the statement says
-pub said_of : (tables other : Database) (events : List RowEvent) (statement : Statement) (name : List ℕ) (work : Option Work) (result : StatementResult) → IsWellFormedDatabase (after_events tables events) → other ≡ tables
-    → ((all : List RowEvent) → IsWellFormedDatabase (after_events other all) → IsWorkOf (after_events other all) (operation_of statement) work) → name ≡ table_of statement → result ≡ work_result (after_events tables events) name work
-    → result ≡ statement_result (after_events tables events) statement
-said_of tables other events statement name work result well_formed same works own gives =
+pub said_of : (tables other : Database) (events : List RowEvent) (statement : Statement) (name : List ℕ) (work : Option Work) → IsWellFormedDatabase (after_events tables events) → other ≡ tables
+    → ((all : List RowEvent) → IsWellFormedDatabase (after_events other all) → IsWorkOf (after_events other all) (operation_of statement) work) → name ≡ table_of statement → work_result (after_events tables events) name work ≡ statement_result (after_events tables events) statement
+said_of tables other events statement name work well_formed same works own =
     let here : (all : List RowEvent) → IsWellFormedDatabase (after_events tables all) → IsWorkOf (after_events tables all) (operation_of statement) work =
     subst (λ (d : Database). (all : List RowEvent) → IsWellFormedDatabase (after_events d all) → IsWorkOf (after_events d all) (operation_of statement) work) same works in
-    gives ∙ ap (λ (n : List ℕ). work_result (after_events tables events) n work) own ∙ work_gives (after_events tables events) (operation_of statement) work (here events well_formed)
+    ap (λ (n : List ℕ). work_result (after_events tables events) n work) own ∙ work_gives (after_events tables events) (operation_of statement) work (here events well_formed)
 
 -- it says the same on the same tables
 pub says_still : (was now : Database) (writes more : List RowEvent) (statement : Statement) → now ≡ was → more ≡ writes → statement_result (after_events now more) statement ≡ statement_result (after_events was writes) statement
@@ -33,12 +32,12 @@ says_still was now writes more statement same own =
     ap (λ (d : Database). statement_result (after_events d more) statement) same ∙ ap (λ (e : List RowEvent). statement_result (after_events was e) statement) own
 
 -- what a statement says fits the tables on which it is said
-pub said_fit : (tables : Database) (statement : Statement) (result : StatementResult) → result ≡ statement_result tables statement → IsWellFormedDatabase tables → EventsFit tables result.events
-said_fit tables statement result said is = subst (λ (r : StatementResult). EventsFit tables r.events) (sym said) (said_fits tables statement is)
+pub said_fit : (tables : Database) (statement : Statement) (events : List RowEvent) → events ≡ (statement_result tables statement).events → IsWellFormedDatabase tables → EventsFit tables events
+said_fit tables statement events said is = subst (EventsFit tables) (sym said) (said_fits tables statement is)
 
 -- ... and leaves them well formed
-pub said_well_formed : (tables : Database) (statement : Statement) (result : StatementResult) → result ≡ statement_result tables statement → IsWellFormedDatabase tables → IsWellFormedDatabase (after_events tables result.events)
-said_well_formed tables statement result said is = subst (λ (r : StatementResult). IsWellFormedDatabase (after_events tables r.events)) (sym said) (statements_keep tables statement is)
+pub said_well_formed : (tables : Database) (statement : Statement) (events : List RowEvent) → events ≡ (statement_result tables statement).events → IsWellFormedDatabase tables → IsWellFormedDatabase (after_events tables events)
+said_well_formed tables statement events said is = subst (λ (es : List RowEvent). IsWellFormedDatabase (after_events tables es)) (sym said) (statements_keep tables statement is)
 
 -- a session that writes more is alone still
 pub alone_more : (was now : Database) (written more : ℕ → List RowEvent) (events : List RowEvent) → IsAlone was written → now ≡ was → more 1 ≡ written 1 ++ events → ((other : ℕ) → (other == 1) ≡ false → more other ≡ written other)

@@ -56,18 +56,17 @@ fn push_reply(replies: &mut Replies, reply: Option<Reply>) -> Result<(), AllocEr
 fn keep(storage: &mut Storage, executed: ReadyResult, statement: &Statement) -> Answer
     requires alone { IsAlone (committed storage.old) (written storage.old) }
     requires ready { AreReady storage.old.tables storage.old.txns 1 executed.writes }
-    requires events { events_ready executed.writes ≡ executed.result.events }
-    requires said { executed.result ≡ statement_result (after_events (committed storage.old) (written storage.old 1)) statement.now }
-    ensures answer { result ≡ executed.result.answer }
-    ensures written { written storage.new 1 ≡ written storage.old 1 ++ executed.result.events }
+    requires said { events_ready executed.writes ≡ (statement_result (after_events (committed storage.old) (written storage.old 1)) statement.now).events }
+    ensures answer { result ≡ executed.answer }
+    ensures written { written storage.new 1 ≡ written storage.old 1 ++ events_ready executed.writes }
     ensures committed { committed storage.new ≡ committed storage.old }
     ensures alone { IsAlone (committed storage.new) (written storage.new) }
 {
     said_events_fit();
     statements_keep_tables();
-    let ReadyResult { result, writes } = executed;
+    let ReadyResult { answer, writes } = executed;
     storage.write(SESSION, writes);
-    result.answer
+    answer
 }
 
 /// Does a statement, and answers it.

@@ -47,8 +47,8 @@ pub fn execute_seen(
 ) -> Result<ReadyResult, AllocError>
     requires kept { IsKept tables.now txns.now }
     requires sound { IsSoundWork (after_events (database tables.now) (written_of session txns.now)) table.now work }
-    ensures result { IfOk result (λ executed. executed.result ≡ work_result (after_events (database tables.now) (written_of session txns.now)) table.now work) }
-    ensures events { IfOk result (λ executed. events_ready executed.writes ≡ executed.result.events) }
+    ensures answer { IfOk result (λ executed. executed.answer ≡ (work_result (after_events (database tables.now) (written_of session txns.now)) table.now work).answer) }
+    ensures events { IfOk result (λ executed. events_ready executed.writes ≡ (work_result (after_events (database tables.now) (written_of session txns.now)) table.now work).events) }
     ensures schema { IfOk result (λ executed. IfSome executed.writes (λ one. HasSchema (database tables.now) one.schema)) }
 {
     let unwritten = Txn::new(alloc);

@@ -109,15 +109,14 @@ pub fn make_ready(
     executed: ReadyResult,
 ) -> Result<ReadyResult, AllocError>
     requires kept { IsKept tables.old txns.old.items }
-    requires events { events_ready executed.writes ≡ executed.result.events }
     requires has { IfSome executed.writes (λ one. HasSchema (database tables.old) one.schema) }
-    ensures result { IfOk result (λ ready. ready.result ≡ executed.result) }
-    ensures events { IfOk result (λ ready. events_ready ready.writes ≡ ready.result.events) }
+    ensures answer { IfOk result (λ ready. ready.answer ≡ executed.answer) }
+    ensures events { IfOk result (λ ready. events_ready ready.writes ≡ events_ready executed.writes) }
     ensures ready { IfOk result (λ ready. AreReady tables.new txns.new.items session ready.writes) }
     ensures kept { IsKeptOn tables.new txns.old.items txns.new.items }
     ensures committed { database tables.new ≡ database tables.old }
 {
-    let ReadyResult { result, writes } = executed;
+    let ReadyResult { answer, writes } = executed;
     let writes = ready_writes(alloc, tables, txns, session, writes)?;
-    Ok(ReadyResult { result, writes })
+    Ok(ReadyResult { answer, writes })
 }

@@ -19,10 +19,10 @@ use crate::definitions::{create_table, drop_table, rename_tables};
 use crate::ending::{commit_txn, roll_back_txn};
 use crate::lookup::execute_seen;
 use crate::making_room::make_ready;
-use crate::open_txns::{OpenTxn, write_in};
+use crate::open_txns::{OpenTxn, events_of, write_in};
 use crate::preparation::prepare_request;
-use base_values::Name;
 use base_values::gho_schema::Schema;
+use base_values::{Name, RowEvent};
 use server_model::{Request, Work};
 use server_transaction::{Prepared, ReadyResult, Writes};
 use std::alloc::{AllocError, Global};
@@ -85,6 +85,13 @@ impl Storage {
         &self.tables
     }
 
+    /// What the session's open transaction wrote, in order: the log gets it at the commit.
+    pub fn events_written(&self, session: u32) -> &[RowEvent]
+        ensures { result.now ≡ written self.now session }
+    {
+        events_of(self.txns.as_slice(), session)
+    }
+
     /// The session's request, prepared: what it is to do to rows, and the row locks that it needs. One for exclusive names takes
     /// no memory.
     pub fn prepare(&self, session: u32, request: &Request) -> Result<Prepared, AllocError>
@@ -110,8 +117,8 @@ impl Storage {
         work: Option<Work>,
     ) -> Result<ReadyResult, AllocError>
         requires { IsSoundWork (after_events (committed self.old) (written self.old session)) table.now work }
-        ensures result { IfOk result (λ executed. executed.result ≡ work_result (after_events (committed self.old) (written self.old session)) table.now work) }
-        ensures events { IfOk result (λ executed. events_ready executed.writes ≡ executed.result.events) }
+        ensures answer { IfOk result (λ executed. executed.answer ≡ (work_result (after_events (committed self.old) (written self.old session)) table.now work).answer) }
+        ensures events { IfOk result (λ executed. events_ready executed.writes ≡ (work_result (after_events (committed self.old) (written self.old session)) table.now work).events) }
         ensures ready { IfOk result (λ executed. AreReady self.new.tables self.new.txns session executed.writes) }
         ensures committed { committed self.new ≡ committed self.old }
         ensures written { (other : ℕ) → written self.new other ≡ written self.old other }

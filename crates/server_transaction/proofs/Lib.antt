@@ -1,6 +1,6 @@
 pub mod DoneEvents
 pub mod FoundTables
-pub mod KeyedEvents
+pub mod GoneKeys
 pub mod LeftEvents
 pub mod MadeWrites
 pub mod MoreWritten

@@ -2,19 +2,19 @@
 use Rattle.std.proofs.Common.{◌≡◌, ℕ, Bool, true, false, List, [], ◌∷◌, ◌++◌, map, filter, cond, Option, Some, None, refl, sym, ap, ◌∙◌, subst, append-nil}
 use Rattle.std.proofs.lemmas.List.{map-append}
 use Rattle.std.proofs.lemmas.List.Elements.{filter-append}
-use Rattle.std.specs.List.{AllByRecursion}
+use Rattle.std.specs.List.{AllZip}
 use Rattle.std.specs.Str.{bytes_eq}
 use Rattle.base_values.specs.declared.gho_schema.schema.Schema.{Schema}
 use Rattle.base_values.specs.GhoSchema.Rows.{key_places}
 use Rattle.base_values.specs.declared.event.Change.{Change}
 use Rattle.base_values.specs.declared.event.RowEvent.{RowEvent}
+use Rattle.table_store.proofs.Orders.{Row}
 use Rattle.server_model.specs.Operations.{events_of}
 use Rattle.server_model.proofs.LockedRows.Tests.{are_same}
 use Rattle.server_seen.specs.Stored.{StoredWrites}
-use Rattle.server_transaction.specs.declared.keyed.KeyedEvent.{KeyedEvent}
-use Rattle.server_transaction.specs.Events.{changes_in, keyed}
+use Rattle.server_transaction.specs.Events.{changes_in, gone_key}
 use Rattle.server_transaction.specs.Shown.{find_writes, Shows, Represents}
-use Rattle.server_transaction.specs.Stored.{IsKeyed, IsTxn, IsMore}
+use Rattle.server_transaction.specs.Stored.{IsGone, IsTxn, IsMore}
 
 -- changes of one table among those of a table
 own_changes : (own name : List ℕ) (changes : List Change) (b : Bool) → bytes_eq own name ≡ b → changes_in name (events_of own changes) ≡ cond b changes []
@@ -40,46 +40,43 @@ shown_by own name tables now writes events more changes false is are made repres
     subst (λ (cs : List Change). Shows cs (find_writes name now)) (sym (changes_more own name events more changes false is made ∙ append-nil (changes_in name events)))
     (subst (Shows (changes_in name events)) (sym (are.others name is)) was)
 
--- each event has its key
-keyed_found : (one : KeyedEvent) (was writes : StoredWrites) (found : Option StoredWrites) → found ≡ Some was → was.schema ≡ writes.schema → IsKeyed one found → IsKeyed one (Some writes)
-keyed_found one was writes found is same keyed_is =
-    let here : IsKeyed one (Some was) = subst (IsKeyed one) is keyed_is in
-    subst (λ (s : Schema). one ≡ keyed (key_places s) one.event) same here
+-- each event has the key of the row that it takes out
+gone_found : (event : RowEvent) (key : Option Row) (was writes : StoredWrites) (found : Option StoredWrites) → found ≡ Some was → was.schema ≡ writes.schema → IsGone event key found → IsGone event key (Some writes)
+gone_found event key was writes found is same gone_is =
+    let here : IsGone event key (Some was) = subst (IsGone event key) is gone_is in
+    subst (λ (s : Schema). key ≡ gone_key (key_places s) event.change) same here
 
-keyed_some : (one : KeyedEvent) (writes : StoredWrites) (found : Option StoredWrites) → ((was : StoredWrites) → found ≡ Some was → was.schema ≡ writes.schema) → IsKeyed one found → IsKeyed one (Some writes)
-keyed_some one writes None same keyed_is = absurd keyed_is
-keyed_some one writes (Some was) same keyed_is = keyed_found one was writes (Some was) refl (same was refl) keyed_is
+gone_some : (event : RowEvent) (key : Option Row) (writes : StoredWrites) (found : Option StoredWrites) → ((was : StoredWrites) → found ≡ Some was → was.schema ≡ writes.schema) → IsGone event key found → IsGone event key (Some writes)
+gone_some event key writes None same gone_is = absurd gone_is
+gone_some event key writes (Some was) same gone_is = gone_found event key was writes (Some was) refl (same was refl) gone_is
 
-keyed_still : (own : List ℕ) (tables now : List StoredWrites) (writes : StoredWrites) (one : KeyedEvent) (b : Bool) → bytes_eq own one.event.table ≡ b → IsMore own tables now writes → IsKeyed one (find_writes one.event.table tables) → IsKeyed one (find_writes one.event.table now)
-keyed_still own tables now writes one true is are keyed_is =
-    let same : own ≡ one.event.table = are_same own one.event.table is in
-    subst (λ (n : List ℕ). IsKeyed one (find_writes n now)) same
-    (subst (IsKeyed one) (sym are.there) (keyed_some one writes (find_writes own tables) are.schema (subst (λ (n : List ℕ). IsKeyed one (find_writes n tables)) (sym same) keyed_is)))
-keyed_still own tables now writes one false is are keyed_is = subst (IsKeyed one) (sym (are.others one.event.table is)) keyed_is
+gone_still : (own : List ℕ) (tables now : List StoredWrites) (writes : StoredWrites) (event : RowEvent) (key : Option Row) (b : Bool) → bytes_eq own event.table ≡ b → IsMore own tables now writes → IsGone event key (find_writes event.table tables) → IsGone event key (find_writes event.table now)
+gone_still own tables now writes event key true is are gone_is =
+    let same : own ≡ event.table = are_same own event.table is in
+    subst (λ (n : List ℕ). IsGone event key (find_writes n now)) same
+    (subst (IsGone event key) (sym are.there) (gone_some event key writes (find_writes own tables) are.schema (subst (λ (n : List ℕ). IsGone event key (find_writes n tables)) (sym same) gone_is)))
+gone_still own tables now writes event key false is are gone_is = subst (IsGone event key) (sym (are.others event.table is)) gone_is
 
-all_keyed : (own : List ℕ) (tables now : List StoredWrites) (writes : StoredWrites) (events : List KeyedEvent) → IsMore own tables now writes → AllByRecursion (λ one. IsKeyed one (find_writes one.event.table tables)) events
-    → (more : List KeyedEvent) → AllByRecursion (λ one. IsKeyed one (find_writes one.event.table now)) more → AllByRecursion (λ one. IsKeyed one (find_writes one.event.table now)) (events ++ more)
-all_keyed own tables now writes [] are were more following = following
-all_keyed own tables now writes (one ∷ events) are were more following =
-    (keyed_still own tables now writes one (bytes_eq own one.event.table) refl are were.0, all_keyed own tables now writes events are were.1 more following)
+all_gone : (own : List ℕ) (tables now : List StoredWrites) (writes : StoredWrites) (events more : List RowEvent) (gone keys : List (Option Row)) → IsMore own tables now writes → AllZip (λ event key. IsGone event key (find_writes event.table tables)) events gone
+    → AllZip (λ event key. IsGone event key (find_writes event.table now)) more keys → AllZip (λ event key. IsGone event key (find_writes event.table now)) (events ++ more) (gone ++ keys)
+all_gone own tables now writes [] more [] keys are were following = following
+all_gone own tables now writes [] more (key ∷ gone) keys are were following = absurd were
+all_gone own tables now writes (event ∷ events) more [] keys are were following = absurd were
+all_gone own tables now writes (event ∷ events) more (key ∷ gone) keys are were following =
+    (gone_still own tables now writes event key (bytes_eq own event.table) refl are were.0, all_gone own tables now writes events more gone keys are were.1 following)
 
-new_keyed : (own : List ℕ) (tables now : List StoredWrites) (writes : StoredWrites) (changes : List Change) → IsMore own tables now writes → AllByRecursion (λ one. IsKeyed one (find_writes one.event.table now)) (map (keyed (key_places writes.schema)) (events_of own changes))
-new_keyed own tables now writes [] are = tt
-new_keyed own tables now writes (change ∷ changes) are =
+new_gone : (own : List ℕ) (tables now : List StoredWrites) (writes : StoredWrites) (changes : List Change) → IsMore own tables now writes → AllZip (λ event key. IsGone event key (find_writes event.table now)) (events_of own changes) (map (gone_key (key_places writes.schema)) changes)
+new_gone own tables now writes [] are = tt
+new_gone own tables now writes (change ∷ changes) are =
     let event : RowEvent = record { table = own; change = change } in
-    (subst (IsKeyed (keyed (key_places writes.schema) event)) (sym are.there) refl, new_keyed own tables now writes changes are)
+    (subst (IsGone event (gone_key (key_places writes.schema) change)) (sym are.there) refl, new_gone own tables now writes changes are)
 
--- the events of keyed events
-pub events_back : (places : List ℕ) (events : List RowEvent) → map (λ (one : KeyedEvent). one.event) (map (keyed places) events) ≡ events
-events_back places [] = refl
-events_back places (event ∷ events) = ap (λ (es : List RowEvent). event ∷ es) (events_back places events)
-
-pub more_written : (own : List ℕ) (tables now : List StoredWrites) (writes : StoredWrites) (events more : List KeyedEvent) (changes : List Change) → IsTxn tables events → IsMore own tables now writes → more ≡ map (keyed (key_places writes.schema)) (events_of own changes)
-    → Represents (key_places writes.schema) (changes_in own (map (λ one. one.event) events) ++ changes) writes.written → IsTxn now (events ++ more)
-more_written own tables now writes events more changes txn are made represents = record {
-  shown = λ name.
-      let back : map (λ (one : KeyedEvent). one.event) more ≡ events_of own changes = ap (map (λ (one : KeyedEvent). one.event)) made ∙ events_back (key_places writes.schema) (events_of own changes) in
-      subst (λ (es : List RowEvent). Shows (changes_in name es) (find_writes name now)) (sym (map-append (λ (one : KeyedEvent). one.event) events more))
-      (shown_by own name tables now writes (map (λ (one : KeyedEvent). one.event) events) (map (λ (one : KeyedEvent). one.event) more) changes (bytes_eq own name) refl are back represents (txn.shown name));
-  keyed = all_keyed own tables now writes events are txn.keyed more (subst (AllByRecursion (λ one. IsKeyed one (find_writes one.event.table now))) (sym made) (new_keyed own tables now writes changes are));
+pub more_written : (own : List ℕ) (tables now : List StoredWrites) (writes : StoredWrites) (events more : List RowEvent) (gone keys : List (Option Row)) (changes : List Change) → IsTxn tables events gone → IsMore own tables now writes → more ≡ events_of own changes
+    → keys ≡ map (gone_key (key_places writes.schema)) changes → Represents (key_places writes.schema) (changes_in own events ++ changes) writes.written → IsTxn now (events ++ more) (gone ++ keys)
+more_written own tables now writes events more gone keys changes txn are made keys_are represents = record {
+  shown = λ name. shown_by own name tables now writes events more changes (bytes_eq own name) refl are made represents (txn.shown name);
+  keys =
+      all_gone own tables now writes events more gone keys are txn.keys
+      (subst (λ (es : List RowEvent). AllZip (λ event key. IsGone event key (find_writes event.table now)) es keys) (sym made)
+      (subst (AllZip (λ event key. IsGone event key (find_writes event.table now)) (events_of own changes)) (sym keys_are) (new_gone own tables now writes changes are)));
 }

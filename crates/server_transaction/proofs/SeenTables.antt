@@ -15,7 +15,7 @@ use Rattle.server_transaction.specs.Events.{changes_in}
 use Rattle.server_transaction.specs.Shown.{find_writes, Shows, Represents}
 use Rattle.server_transaction.specs.Stored.{StoredTxn}
 use Rattle.server_transaction.specs.Premises.{HasSchema, IsOf}
-use Rattle.server_transaction.proofs.KeyedEvents.{found_stands}
+use Rattle.server_transaction.proofs.GoneKeys.{found_stands}
 use Rattle.server_transaction.proofs.Represented.{represents_all}
 use Rattle.server_transaction.proofs.SeenViews.{own_name, through, IsSeen, is_seen}
 use Rattle.server_transaction.proofs.Views.{changed, found_changed}

@@ -1,16 +1,16 @@
 -- The room that is left in each table while events are done one by one.
-use Rattle.std.proofs.Common.{◌≡◌, ℕ, ◌+◌, ◌≤◌, Bool, true, false, not, List, [], ◌∷◌, map, cond, Option, Some, None, refl, sym, ap, ◌∙◌, subst, arith, zero-add}
-use Rattle.std.specs.List.{AllByRecursion}
+use Rattle.std.proofs.Common.{◌≡◌, ℕ, ◌+◌, ◌≤◌, Bool, true, false, not, List, [], ◌∷◌, cond, Option, Some, None, refl, sym, ap, ◌∙◌, subst, arith, zero-add}
+use Rattle.std.specs.List.{AllZip}
 use Rattle.std.specs.Str.{bytes_eq}
 use Rattle.base_values.specs.declared.event.RowEvent.{RowEvent}
 use Rattle.table_store.specs.Databases.{Database, StoredTable, database, find_table, find_stored, others, spare_in, is_named, with_change}
+use Rattle.table_store.proofs.Orders.{Row}
 use Rattle.server_model.specs.Operations.{change_table, after_events}
 use Rattle.server_model.proofs.LockedRows.Tests.{are_same, same_bytes}
 use Rattle.server_transaction.specs.FittingEvents.{FitsIn, EventsFit}
-use Rattle.server_transaction.specs.declared.keyed.KeyedEvent.{KeyedEvent}
-use Rattle.server_transaction.specs.Premises.{IsKeyedIn}
+use Rattle.server_transaction.specs.Premises.{IsGoneIn}
 use Rattle.server_transaction.specs.Rooms.{puts_of, puts_in}
-use Rattle.server_transaction.proofs.KeyedEvents.{still_keyed}
+use Rattle.server_transaction.proofs.GoneKeys.{still_gone}
 
 -- a table of another name is found among the others
 other_first : (own name : List ℕ) (first : StoredTable) (tables : List StoredTable) (b : Bool) → is_named own first.table ≡ b → bytes_eq own name ≡ false → find_stored name (others own tables) ≡ find_stored name tables
@@ -51,57 +51,49 @@ puts_first name event events = at (bytes_eq event.table name) where
   at true = refl
   at false = sym (zero-add (puts_in name events))
 
--- what is left once an event is done
-pub record IsDone (was now : List StoredTable) (one : KeyedEvent) (rest : List KeyedEvent) : Type 0 where
-  pub same : after_events (database now) (map (λ e. e.event) rest) ≡ after_events (database was) (map (λ e. e.event) (one ∷ rest))
-  pub fit : EventsFit (database now) (map (λ e. e.event) rest)
-  pub keys : AllByRecursion (IsKeyedIn (database now)) rest
-  pub room : (name : List ℕ) → puts_in name (map (λ e. e.event) rest) ≤ spare_in name now
-  pub spare : (name : List ℕ) → spare_in name was + puts_in name (map (λ e. e.event) rest) ≤ spare_in name now + puts_in name (map (λ e. e.event) (one ∷ rest))
+-- what is left once an event is done: events, and the keys of the rows that they take out
+pub record IsDone (was now : List StoredTable) (event : RowEvent) (rest : List RowEvent) (gone : List (Option Row)) : Type 0 where
+  pub same : after_events (database now) rest ≡ after_events (database was) (event ∷ rest)
+  pub fit : EventsFit (database now) rest
+  pub keys : AllZip (IsGoneIn (database now)) rest gone
+  pub room : (name : List ℕ) → puts_in name rest ≤ spare_in name now
+  pub spare : (name : List ℕ) → spare_in name was + puts_in name rest ≤ spare_in name now + puts_in name (event ∷ rest)
 
-pub one_done : (was now : List StoredTable) (one : KeyedEvent) (rest : List KeyedEvent) → database now ≡ with_change one.event.table (change_table one.event.change) (database was) → spare_in one.event.table was ≤ spare_in one.event.table now + puts_of one.event.change
-    → others one.event.table now ≡ others one.event.table was → EventsFit (database was) (map (λ e. e.event) (one ∷ rest)) → AllByRecursion (IsKeyedIn (database was)) (one ∷ rest)
-    → ((name : List ℕ) → puts_in name (map (λ e. e.event) (one ∷ rest)) ≤ spare_in name was) → IsDone was now one rest
+pub one_done : (was now : List StoredTable) (event : RowEvent) (rest : List RowEvent) (gone : Option Row) (keys : List (Option Row)) → database now ≡ with_change event.table (change_table event.change) (database was) → spare_in event.table was ≤ spare_in event.table now + puts_of event.change
+    → others event.table now ≡ others event.table was → EventsFit (database was) (event ∷ rest) → AllZip (IsGoneIn (database was)) (event ∷ rest) (gone ∷ keys) → ((name : List ℕ) → puts_in name (event ∷ rest) ≤ spare_in name was) → IsDone was now event rest keys
 unfolding after_events EventsFit
-one_done was now one rest is less same fit keys room =
-    let own : List ℕ = one.event.table in
-    let left : List RowEvent = map (λ (e : KeyedEvent). e.event) rest in
-    let taken = λ (name : List ℕ). one_taken own name was now (puts_of one.event.change) (bytes_eq own name) refl same less in
+one_done was now event rest gone keys is less same fit all room =
+    let own : List ℕ = event.table in
+    let taken = λ (name : List ℕ). one_taken own name was now (puts_of event.change) (bytes_eq own name) refl same less in
     record {
-      same = ap (λ (ts : Database). after_events ts left) is;
-      fit = subst (λ (ts : Database). EventsFit ts left) (sym is) fit.1;
-      keys = subst (λ (ts : Database). AllByRecursion (IsKeyedIn ts) rest) (sym is) (still_keyed own one.event.change (database was) rest keys.1);
-      room = λ name. let t = taken name in let p = puts_first name one.event left in let r = room name in omega (arith, t, p, r);
-      spare = λ name. let t = taken name in let p = puts_first name one.event left in omega (arith, t, p);
+      same = ap (λ (ts : Database). after_events ts rest) is;
+      fit = subst (λ (ts : Database). EventsFit ts rest) (sym is) fit.1;
+      keys = subst (λ (ts : Database). AllZip (IsGoneIn ts) rest keys) (sym is) (still_gone own event.change (database was) rest keys all.1);
+      room = λ name. let t = taken name in let p = puts_first name event rest in let r = room name in omega (arith, t, p, r);
+      spare = λ name. let t = taken name in let p = puts_first name event rest in omega (arith, t, p);
     }
 
--- the next event fits, has its key and finds room
-pub record IsNext (tables : List StoredTable) (one : KeyedEvent) : Type 0 where
-  pub fits : FitsIn one.event.change (find_table one.event.table (database tables))
-  pub key : IsKeyedIn (database tables) one
-  pub room : puts_of one.event.change ≤ spare_in one.event.table tables
+-- the next event fits and finds room
+pub record IsNext (tables : List StoredTable) (event : RowEvent) : Type 0 where
+  pub fits : FitsIn event.change (find_table event.table (database tables))
+  pub room : puts_of event.change ≤ spare_in event.table tables
 
-pub next_one : (tables : List StoredTable) (left : List KeyedEvent) (one : KeyedEvent) (rest : List KeyedEvent) → left ≡ one ∷ rest → EventsFit (database tables) (map (λ e. e.event) left) → AllByRecursion (IsKeyedIn (database tables)) left
-    → ((name : List ℕ) → puts_in name (map (λ e. e.event) left) ≤ spare_in name tables) → IsNext tables one
+pub next_one : (tables : List StoredTable) (event : RowEvent) (rest : List RowEvent) → EventsFit (database tables) (event ∷ rest) → ((name : List ℕ) → puts_in name (event ∷ rest) ≤ spare_in name tables) → IsNext tables event
 unfolding EventsFit
-next_one tables left one rest step fit keys room =
-    let fit' : EventsFit (database tables) (map (λ (e : KeyedEvent). e.event) (one ∷ rest)) = subst (λ (es : List KeyedEvent). EventsFit (database tables) (map (λ (e : KeyedEvent). e.event) es)) step fit in
-    let own : List ℕ = one.event.table in
-    record {
-      fits = fit'.0;
-      key = (subst (λ (es : List KeyedEvent). AllByRecursion (IsKeyedIn (database tables)) es) step keys).0;
-      room =
-          let all = room own in
-          let here = ap (λ (es : List KeyedEvent). puts_in own (map (λ (e : KeyedEvent). e.event) es)) step in
-          let first = puts_first own one.event (map (λ (e : KeyedEvent). e.event) rest) in
-          let same : cond (bytes_eq own own) (puts_of one.event.change) 0 ≡ puts_of one.event.change = rw (same_bytes own) refl in
-          omega (arith, all, here, first, same);
-    }
+next_one tables event rest fit room = record {
+  fits = fit.0;
+  room =
+      let own : List ℕ = event.table in
+      let all = room own in
+      let first = puts_first own event rest in
+      let same : cond (bytes_eq own own) (puts_of event.change) 0 ≡ puts_of event.change = rw (same_bytes own) refl in
+      omega (arith, all, first, same);
+}
 
-pub none_after : (tables : Database) (left : List KeyedEvent) → left ≡ [] → tables ≡ after_events tables (map (λ e. e.event) left)
+pub none_after : (tables : Database) (left : List RowEvent) → left ≡ [] → tables ≡ after_events tables left
 unfolding after_events
-none_after tables left end = ap (λ (es : List KeyedEvent). after_events tables (map (λ (e : KeyedEvent). e.event) es)) (sym end)
+none_after tables left end = ap (after_events tables) (sym end)
 
-pub none_puts : (name : List ℕ) (left : List KeyedEvent) → left ≡ [] → puts_in name (map (λ e. e.event) left) ≡ 0
+pub none_puts : (name : List ℕ) (left : List RowEvent) → left ≡ [] → puts_in name left ≡ 0
 unfolding puts_in
-none_puts name left end = ap (λ (es : List KeyedEvent). puts_in name (map (λ (e : KeyedEvent). e.event) es)) end
+none_puts name left end = ap (puts_in name) end

@@ -1,19 +1,21 @@
 -- A transaction whose tables are laid over with what a statement wrote, or get more room.
 use Rattle.std.proofs.Common.{◌≡◌, ℕ, ◌≤◌, Bool, true, false, List, [], ◌∷◌, ◌++◌, map, cond, length, Option, Some, None, refl, sym, ap, ◌∙◌, subst, arith}
 use Rattle.std.specs.Prelude.{IfSome}
+use Rattle.std.proofs.lemmas.List.{length-map}
 use Rattle.std.specs.Option.{option_map}
-use Rattle.std.specs.List.{AllByRecursion, find}
+use Rattle.std.specs.List.{AllZip, find}
 use Rattle.std.specs.Str.{bytes_eq}
 use Rattle.base_values.specs.declared.gho_schema.schema.Schema.{Schema}
 use Rattle.base_values.specs.GhoSchema.Rows.{key_places}
 use Rattle.base_values.specs.declared.event.Change.{Change}
+use Rattle.base_values.specs.declared.event.RowEvent.{RowEvent}
+use Rattle.table_store.proofs.Orders.{Row}
 use Rattle.server_model.specs.Operations.{events_of}
 use Rattle.server_seen.specs.Written.{Written, nothing, wrote_all}
 use Rattle.server_seen.specs.Stored.{StoredWrites}
-use Rattle.server_transaction.specs.declared.keyed.KeyedEvent.{KeyedEvent}
-use Rattle.server_transaction.specs.Events.{changes_in, keyed}
+use Rattle.server_transaction.specs.Events.{changes_in, gone_key}
 use Rattle.server_transaction.specs.Shown.{find_writes, Shows, Represents}
-use Rattle.server_transaction.specs.Stored.{IsKeyed, IsTxn, PlainWrites, plain, written_on, HasRoomFor, HasRoomIn, IsWrittenTo, schemas}
+use Rattle.server_transaction.specs.Stored.{IsGone, IsTxn, PlainWrites, plain, written_on, HasRoomFor, HasRoomIn, IsWrittenTo, schemas}
 use Rattle.server_transaction.proofs.Represented.{represents_all, represents_over}
 use Rattle.server_transaction.proofs.MoreWritten.{more_written}
 
@@ -23,17 +25,18 @@ on_before schema before changes None none same = subst (λ (cs : List Change). R
 on_before schema before changes (Some table) shows same =
     represents_over (key_places schema) before changes (wrote_all (key_places schema) changes nothing) table.written (subst (λ (s : Schema). Represents (key_places s) before table.written) same shows) (represents_all (key_places schema) changes)
 
-pub written_txn : (later : StoredWrites) (tables now : List StoredWrites) (events more all : List KeyedEvent) (changes : List Change) → IsTxn tables events → IsWrittenTo later tables now → later.written ≡ wrote_all (key_places later.schema) changes nothing
-    → more ≡ map (keyed (key_places later.schema)) (events_of later.schema.name changes) → all ≡ events ++ more → IfSome (find_writes later.schema.name tables) (λ table. table.schema ≡ later.schema) → IsTxn now all
-written_txn later tables now events more all changes txn to written_is made all_is same =
+pub written_txn : (later : StoredWrites) (tables now : List StoredWrites) (events more all : List RowEvent) (gone keys every : List (Option Row)) (changes : List Change) → IsTxn tables events gone → IsWrittenTo later tables now → later.written ≡ wrote_all (key_places later.schema) changes nothing
+    → more ≡ events_of later.schema.name changes → keys ≡ map (gone_key (key_places later.schema)) changes → all ≡ events ++ more → every ≡ gone ++ keys → IfSome (find_writes later.schema.name tables) (λ table. table.schema ≡ later.schema) → IsTxn now all every
+written_txn later tables now events more all gone keys every changes txn to written_is made keys_are all_is every_is same =
     let own : List ℕ = later.schema.name in
-    let before : List Change = changes_in own (map (λ (one : KeyedEvent). one.event) events) in
+    let before : List Change = changes_in own events in
     let represents : Represents (key_places later.schema) (before ++ changes) (written_on later.schema (wrote_all (key_places later.schema) changes nothing) (find_writes own tables)) = on_before later.schema before changes (find_writes own tables) (txn.shown own) same in
     let written : written_on later.schema (wrote_all (key_places later.schema) changes nothing) (find_writes own tables) ≡ to.writes.written = ap (λ (w : Written). written_on later.schema w (find_writes own tables)) (sym written_is) ∙ sym to.written_is in
     let here : Represents (key_places to.writes.schema) (before ++ changes) to.writes.written =
     subst (λ (s : Schema). Represents (key_places s) (before ++ changes) to.writes.written) (sym to.same) (subst (Represents (key_places later.schema) (before ++ changes)) written represents) in
-    subst (IsTxn now) (sym all_is)
-    (more_written own tables now to.writes events more changes txn to.more (made ∙ ap (λ (s : Schema). map (keyed (key_places s)) (events_of own changes)) (sym to.same)) here)
+    subst (λ (es : List RowEvent). IsTxn now es every) (sym all_is)
+    (subst (IsTxn now (events ++ more)) (sym every_is)
+    (more_written own tables now to.writes events more gone keys changes txn to.more made (keys_are ∙ ap (λ (s : Schema). map (gone_key (key_places s)) changes) (sym to.same)) here))
 
 -- equal but for their room, tables show the same
 plain_first : (name : List ℕ) (first : StoredWrites) (b : Bool) (found : Option StoredWrites) → option_map plain (cond b (Some first) found) ≡ cond b (Some (plain first)) (option_map plain found)
@@ -53,21 +56,23 @@ still_shows changes None (Some n) same shows = absurd (cc)
 still_shows changes (Some w) None same shows = absurd (cc)
 still_shows changes (Some w) (Some n) same shows = let one : plain w ≡ plain n = cc in subst (λ (p : PlainWrites). Represents (key_places p.schema) changes p.written) one shows
 
-still_keyed_by : (one : KeyedEvent) (was now : Option StoredWrites) → option_map plain now ≡ option_map plain was → IsKeyed one was → IsKeyed one now
-still_keyed_by one None now same is = absurd is
-still_keyed_by one (Some w) None same is = absurd (cc)
-still_keyed_by one (Some w) (Some n) same is = let both : plain w ≡ plain n = cc in subst (λ (p : PlainWrites). one ≡ keyed (key_places p.schema) one.event) both is
+still_gone_by : (event : RowEvent) (key : Option Row) (was now : Option StoredWrites) → option_map plain now ≡ option_map plain was → IsGone event key was → IsGone event key now
+still_gone_by event key None now same is = absurd is
+still_gone_by event key (Some w) None same is = absurd (cc)
+still_gone_by event key (Some w) (Some n) same is = let both : plain w ≡ plain n = cc in subst (λ (p : PlainWrites). key ≡ gone_key (key_places p.schema) event.change) both is
 
-all_keyed_by : (tables now : List StoredWrites) (events : List KeyedEvent) → map plain now ≡ map plain tables → AllByRecursion (λ one. IsKeyed one (find_writes one.event.table tables)) events → AllByRecursion (λ one. IsKeyed one (find_writes one.event.table now)) events
-all_keyed_by tables now [] same all = tt
-all_keyed_by tables now (one ∷ events) same all =
-    (still_keyed_by one (find_writes one.event.table tables) (find_writes one.event.table now) (alike_found one.event.table tables now same) all.0, all_keyed_by tables now events same all.1)
+all_gone_by : (tables now : List StoredWrites) (events : List RowEvent) (gone : List (Option Row)) → map plain now ≡ map plain tables → AllZip (λ event key. IsGone event key (find_writes event.table tables)) events gone → AllZip (λ event key. IsGone event key (find_writes event.table now)) events gone
+all_gone_by tables now [] [] same all = tt
+all_gone_by tables now [] (key ∷ gone) same all = absurd all
+all_gone_by tables now (event ∷ events) [] same all = absurd all
+all_gone_by tables now (event ∷ events) (key ∷ gone) same all =
+    (still_gone_by event key (find_writes event.table tables) (find_writes event.table now) (alike_found event.table tables now same) all.0, all_gone_by tables now events gone same all.1)
 
-pub alike_txn : (tables now : List StoredWrites) (events events' : List KeyedEvent) → map plain now ≡ map plain tables → events' ≡ events → IsTxn tables events → IsTxn now events'
-alike_txn tables now events events' same same_events txn = subst (IsTxn now) (sym same_events) (record {
-  shown = λ name. still_shows (changes_in name (map (λ (one : KeyedEvent). one.event) events)) (find_writes name tables) (find_writes name now) (alike_found name tables now same) (txn.shown name);
-  keyed = all_keyed_by tables now events same txn.keyed;
-})
+pub alike_txn : (tables now : List StoredWrites) (events events' : List RowEvent) (gone gone' : List (Option Row)) → map plain now ≡ map plain tables → events' ≡ events → gone' ≡ gone → IsTxn tables events gone → IsTxn now events' gone'
+alike_txn tables now events events' gone gone' same same_events same_keys txn = subst (λ (es : List RowEvent). IsTxn now es gone') (sym same_events) (subst (IsTxn now events) (sym same_keys) (record {
+  shown = λ name. still_shows (changes_in name events) (find_writes name tables) (find_writes name now) (alike_found name tables now same) (txn.shown name);
+  keys = all_gone_by tables now events gone same txn.keys;
+}))
 
 schemas_of_plain : (tables : List StoredWrites) → schemas tables ≡ map (λ (p : PlainWrites). p.schema) (map plain tables)
 schemas_of_plain [] = refl
@@ -80,3 +85,7 @@ alike_schemas tables now same = schemas_of_plain now ∙ ap (map (λ (p : PlainW
 pub enough : (n room : ℕ) (written : Written) (found : Option StoredWrites) → length written.rows ≤ n → length written.keys ≤ n → HasRoomFor n found room → HasRoomIn written found room
 enough n room written None rows keys has = has
 enough n room written (Some table) rows keys has = let all : n ≤ table.spare = has in (omega (arith, rows, all), omega (arith, keys, all))
+
+-- there are as many keys as changes
+pub keys_as_many : (places : List ℕ) (changes : List Change) (keys : List (Option Row)) → keys ≡ map (gone_key places) changes → length keys ≡ length changes
+keys_as_many places changes keys are = ap length are ∙ length-map changes (gone_key places)

@@ -3,15 +3,15 @@ use Rattle.std.specs.Prelude.{◌≡◌, List, [], IfSome, Option, Some, None}
 use Rattle.std.specs.Option.{option_map}
 use Rattle.std.specs.List.{AllByRecursion}
 use Rattle.base_values.specs.declared.gho_schema.schema.Schema.{Schema}
+use Rattle.base_values.specs.declared.value.Value.{Value}
 use Rattle.base_values.specs.GhoSchema.Rows.{key_places}
 use Rattle.base_values.specs.declared.event.RowEvent.{RowEvent}
 use Rattle.table_store.specs.Databases.{Database, find_table}
 use Rattle.server_model.specs.Operations.{after_events}
 use Rattle.server_transaction.specs.FittingEvents.{EventsFit}
 use Rattle.server_model.specs.LockedRows.Databases.{IsWellFormedDatabase}
-use Rattle.server_transaction.specs.Events.{keyed}
+use Rattle.server_transaction.specs.Events.{gone_key}
 use Rattle.server_transaction.specs.Stored.{StoredTxn, events_in, schemas, TableChanges}
-use Rattle.server_transaction.specs.declared.keyed.KeyedEvent.{KeyedEvent}
 
 -- the table of the schema's name has this schema
 abbrev pub HasSchema : Database → Schema → Type 0
@@ -24,9 +24,9 @@ pub record IsOf (tables : Database) (txn : StoredTxn) : Type 0 where
   pub well_formed : IsWellFormedDatabase (after_events tables txn.events)
   pub stand : AllByRecursion (HasSchema tables) (schemas txn.tables)
 
--- the event has the key of the row that it takes out, by the schema of its table
-abbrev pub IsKeyedIn : Database → KeyedEvent → Type 0
-IsKeyedIn tables one = IfSome (find_table one.event.table tables) (λ table. one ≡ keyed (key_places table.schema) one.event)
+-- this is the key of the row that the event takes out, by the schema of its table
+abbrev pub IsGoneIn : Database → RowEvent → Option (List Value) → Type 0
+IsGoneIn tables event key = IfSome (find_table event.table tables) (λ table. key ≡ gone_key (key_places table.schema) event.change)
 
 -- the events of what a statement writes, where it writes something
 abbrev pub events_ready : Option TableChanges → List RowEvent

@@ -1,6 +1,6 @@
 -- What contracts see of a transaction, and of what one statement writes.
 use Rattle.std.specs.Prelude.{◌≡◌, ◌≤◌, ◌++◌, [], ◌∷◌, false, if◌then◌else◌, ℕ, List, length, map, Option, Some, None}
-use Rattle.std.specs.List.{AllByRecursion, list_any}
+use Rattle.std.specs.List.{AllZip, list_any}
 use Rattle.std.specs.Str.{bytes_eq}
 use Rattle.base_values.specs.declared.value.Value.{Value}
 use Rattle.base_values.specs.declared.gho_schema.schema.Schema.{Schema}
@@ -10,8 +10,7 @@ use Rattle.base_values.specs.declared.event.RowEvent.{RowEvent}
 use Rattle.server_model.specs.Operations.{events_of}
 use Rattle.server_seen.specs.Written.{Written, nothing, wrote_all, written_over}
 use Rattle.server_seen.specs.Stored.{StoredWrites}
-use Rattle.server_transaction.specs.declared.keyed.KeyedEvent.{KeyedEvent}
-use Rattle.server_transaction.specs.Events.{changes_in, keyed}
+use Rattle.server_transaction.specs.Events.{changes_in, gone_key}
 use Rattle.server_transaction.specs.Shown.{find_writes, Shows}
 
 -- WHAT ONE STATEMENT WRITES
@@ -29,11 +28,12 @@ events_in writes = events_of writes.schema.name writes.changes
 abbrev pub written_by : TableChanges → Written
 written_by writes = wrote_all (key_places writes.schema) writes.changes nothing
 
--- What is made ready of changes: what they write, its keys, and the events with the keys of the rows that they take out.
-pub record IsMade (schema : Schema) (written : Written) (keys : List (List Value)) (events : List KeyedEvent) : Type 0 where
-  pub written_is : written ≡ wrote_all (key_places schema) (map (λ one. one.event.change) events) nothing
+-- What is made ready of changes: what they write, its keys, the events, and the keys of the rows that they take out.
+pub record IsMade (writes : TableChanges) (written : Written) (keys : List (List Value)) (events : List RowEvent) (gone : List (Option (List Value))) : Type 0 where
+  pub written_is : written ≡ written_by writes
   pub keys_are : keys ≡ written.keys
-  pub events_are : events ≡ map (keyed (key_places schema)) (events_of schema.name (map (λ one. one.event.change) events))
+  pub events_are : events ≡ events_in writes
+  pub gone_are : gone ≡ map (gone_key (key_places writes.schema)) writes.changes
 
 -- WHAT A TRANSACTION WROTE
 
@@ -48,15 +48,15 @@ pub record StoredTxn : Type 0 where
 abbrev pub schemas : List StoredWrites → List Schema
 schemas tables = map (λ writes. writes.schema) tables
 
--- the event has the key of the row that it takes out, by the schema of its table, to which something was written
-abbrev pub IsKeyed : KeyedEvent → Option StoredWrites → Type 0
-IsKeyed one None = ⊥
-IsKeyed one (Some writes) = one ≡ keyed (key_places writes.schema) one.event
+-- this is the key of the row that the event takes out, by the schema of its table, to which something was written
+abbrev pub IsGone : RowEvent → Option (List Value) → Option StoredWrites → Type 0
+IsGone event key None = ⊥
+IsGone event key (Some writes) = key ≡ gone_key (key_places writes.schema) event.change
 
 -- What was written to each table shows the changes of the table, and each event has its key.
-pub record IsTxn (tables : List StoredWrites) (events : List KeyedEvent) : Type 0 where
-  pub shown : (name : List ℕ) → Shows (changes_in name (map (λ one. one.event) events)) (find_writes name tables)
-  pub keyed : AllByRecursion (λ one. IsKeyed one (find_writes one.event.table tables)) events
+pub record IsTxn (tables : List StoredWrites) (events : List RowEvent) (gone : List (Option (List Value))) : Type 0 where
+  pub shown : (name : List ℕ) → Shows (changes_in name events) (find_writes name tables)
+  pub keys : AllZip (λ event key. IsGone event key (find_writes event.table tables)) events gone
 
 -- WHAT IT HAS ROOM FOR
 

@@ -8,10 +8,9 @@ ghost use Rattle.table_store.specs.Databases.{database, find_table, with_change,
 ghost use Rattle.server_model.specs.Operations.{change_table};
 ghost use Rattle.server_transaction.specs.FittingEvents.{FitsIn};
 ghost use Rattle.server_model.specs.LockedRows.Databases.{WhereFound};
-ghost use Rattle.server_transaction.specs.Events.{keyed};
+ghost use Rattle.server_transaction.specs.Premises.{IsGoneIn};
 ghost use Rattle.server_transaction.specs.Rooms.{puts_of};
 
-use crate::keyed::KeyedEvent;
 use base_values::{Change, Key, Name, Row, RowEvent};
 use table_store::paged_tables::Tables;
 
@@ -69,16 +68,15 @@ fn change(tables: &mut Tables, name: &Name, before: &Row, after: Row, gone: &Opt
     put(tables, name, after);
 }
 
-/// Does an event to its table.
-pub fn apply(tables: &mut Tables, one: KeyedEvent)
-    requires fits { FitsIn one.event.change (find_table one.event.table (database tables.old)) }
-    requires key { IfSome (find_table one.event.table (database tables.old)) (λ table. one ≡ keyed (key_places table.schema) one.event) }
-    requires room { puts_of one.event.change ≤ spare_in one.event.table tables.old }
-    ensures tables { database tables.new ≡ with_change one.event.table (change_table one.event.change) (database tables.old) }
-    ensures spare { spare_in one.event.table tables.old ≤ spare_in one.event.table tables.new + puts_of one.event.change }
-    ensures others { others one.event.table tables.new ≡ others one.event.table tables.old }
+/// Does an event to its table, where the key is given of the row that it takes out.
+pub fn apply(tables: &mut Tables, event: RowEvent, gone: Option<Key>)
+    requires fits { FitsIn event.change (find_table event.table (database tables.old)) }
+    requires key { IsGoneIn (database tables.old) event gone }
+    requires room { puts_of event.change ≤ spare_in event.table tables.old }
+    ensures tables { database tables.new ≡ with_change event.table (change_table event.change) (database tables.old) }
+    ensures spare { spare_in event.table tables.old ≤ spare_in event.table tables.new + puts_of event.change }
+    ensures others { others event.table tables.new ≡ others event.table tables.old }
 {
-    let KeyedEvent { event, gone } = one;
     let RowEvent {
         table,
         change: done,

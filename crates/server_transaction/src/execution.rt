@@ -18,11 +18,11 @@ use crate::writes::Writes;
 use base_script::Statement;
 use base_values::gho_schema::Schema;
 use base_values::mysql_errors::ER_NO_SUCH_TABLE;
-use base_values::{Change, Name, Sequence};
+use base_values::{Name, Sequence};
 use server_execute::statement_work::needs;
-use server_execute::{events_of, tells};
+use server_execute::{Changes, tells};
 use server_locks::row_locks::LockSet;
-use server_model::{StatementResult, Work};
+use server_model::Work;
 use server_prepare::{refuses, work_of};
 use server_seen::SeenTable;
 use std::alloc::{AllocError, Global};
@@ -107,12 +107,8 @@ pub fn prepare(
 }
 
 /// What changes write, made ready; nothing where there are none.
-fn writes_of(
-    alloc: Global,
-    schema: &Schema,
-    changes: &[Change],
-) -> Result<Option<Writes>, AllocError>
-    ensures events { IfOk result (λ writes. events_ready writes ≡ events_of schema.now.name changes.now) }
+fn writes_of(alloc: Global, schema: &Schema, changes: Changes) -> Result<Option<Writes>, AllocError>
+    ensures events { IfOk result (λ writes. events_ready writes ≡ events_of schema.now.name changes) }
     ensures schema { IfOk result (λ writes. IfSome writes (λ one. one.schema ≡ schema.now)) }
 {
     if changes.is_empty() {
@@ -125,33 +121,26 @@ fn writes_of(
 fn tell(alloc: Global, seen: &SeenTable<'_>, work: &Work) -> Result<ReadyResult, AllocError>
     requires well_formed { IsWellFormedTable seen.now }
     requires sound { IsSound seen.now.schema.columns work.now }
-    ensures statement_result { IfOk result (λ executed. executed.result ≡ result_of seen.now.schema.name (tells seen.now.schema seen.now.rows work.now)) }
-    ensures events { IfOk result (λ executed. events_ready executed.writes ≡ executed.result.events) }
+    ensures answer { IfOk result (λ executed. executed.answer ≡ (result_of seen.now.schema.name (tells seen.now.schema seen.now.rows work.now)).answer) }
+    ensures events { IfOk result (λ executed. events_ready executed.writes ≡ (result_of seen.now.schema.name (tells seen.now.schema seen.now.rows work.now)).events) }
     ensures schema { IfOk result (λ executed. IfSome executed.writes (λ one. one.schema ≡ seen.now.schema)) }
 {
     let schema = seen.schema();
     let executed = tells(alloc, seen, work)?;
-    let writes = writes_of(alloc, schema, executed.changes.as_slice())?;
-    let events = events_of(alloc, &schema.name, executed.changes)?;
+    let writes = writes_of(alloc, schema, executed.changes)?;
     Ok(ReadyResult {
-        result: StatementResult {
-            answer: executed.answer,
-            events,
-        },
+        answer: executed.answer,
         writes,
     })
 }
 
 /// What is said where the table doesn't exist.
-fn missing(alloc: Global) -> ReadyResult
-    ensures statement_result { result.result ≡ record { answer = refuses ER_NO_SUCH_TABLE; events = [] } }
+fn missing() -> ReadyResult
+    ensures answer { result.answer ≡ refuses ER_NO_SUCH_TABLE }
     ensures writes { result.writes ≡ None }
 {
     ReadyResult {
-        result: StatementResult {
-            answer: refuses(ER_NO_SUCH_TABLE),
-            events: Sequence::new(alloc),
-        },
+        answer: refuses(ER_NO_SUCH_TABLE),
         writes: None,
     }
 }
@@ -166,15 +155,15 @@ pub fn execute(
 ) -> Result<ReadyResult, AllocError>
     requires of { IsOf (database tables.now) txn.now }
     requires sound { IsSoundWork (after_events (database tables.now) txn.now.events) name.now work }
-    ensures result { IfOk result (λ executed. executed.result ≡ work_result (after_events (database tables.now) txn.now.events) name.now work) }
-    ensures events { IfOk result (λ executed. events_ready executed.writes ≡ executed.result.events) }
+    ensures answer { IfOk result (λ executed. executed.answer ≡ (work_result (after_events (database tables.now) txn.now.events) name.now work).answer) }
+    ensures events { IfOk result (λ executed. events_ready executed.writes ≡ (work_result (after_events (database tables.now) txn.now.events) name.now work).events) }
     ensures schema { IfOk result (λ executed. IfSome executed.writes (λ one. HasSchema (database tables.now) one.schema)) }
 {
     let Some(work) = work else {
-        return Ok(missing(alloc));
+        return Ok(missing());
     };
     match seen_table(tables, txn, name) {
         Some(seen) => tell(alloc, &seen, &work),
-        None => Ok(missing(alloc)),
+        None => Ok(missing()),
     }
 }

@@ -5,9 +5,10 @@
 mod application;
 mod commits;
 mod execution;
-mod keyed;
+mod gone_keys;
 pub mod laws;
 mod prepared;
+mod room;
 pub mod row_copies;
 mod seen_tables;
 mod tables;
@@ -16,7 +17,6 @@ mod writes;
 
 pub use commits::commit;
 pub use execution::{execute, prepare, statement_work, table_of, with_locks};
-pub use keyed::KeyedEvent;
 pub use prepared::{Prepared, ReadyResult};
 pub use txn::Txn;
 pub use writes::Writes;

@@ -1,8 +1,12 @@
 //! A statement, or the copy of a row: prepared, and then executed.
 
+ghost use Rattle.std.specs.Prelude.{◌≡◌};
+ghost use Rattle.server_transaction.specs.Premises.{events_ready};
+
 use crate::writes::Writes;
+use base_values::RowEvent;
 use server_locks::row_locks::LockSet;
-use server_model::{StatementResult, Work};
+use server_model::{Answer, Work};
 
 /// What a request is to do to the rows of its table, and the row locks that it needs, over the tables as its session sees them.
 #[derive(Drop)]
@@ -16,8 +20,20 @@ pub struct Prepared {
 /// What prepared work gives, and what it writes, made ready so that writing it takes no memory.
 #[derive(Drop)]
 pub struct ReadyResult {
-    /// The answer and the events.
-    pub result: StatementResult,
+    /// The answer.
+    pub answer: Answer,
     /// What is written, where something is.
     pub writes: Option<Writes>,
+}
+
+impl ReadyResult {
+    /// The events of what is written.
+    pub fn events(&self) -> &[RowEvent]
+        ensures { result.now ≡ events_ready self.now.writes }
+    {
+        match &self.writes {
+            Some(writes) => writes.events(),
+            None => &[],
+        }
+    }
 }

@@ -1,15 +1,14 @@
 //! A session's transaction.
 
-ghost use Rattle.std.specs.Prelude.{◌≡◌, ◌==◌, ◌++◌, [], length, map, option_copied, IfSome, OnOk};
-ghost use Rattle.std.specs.List.{AllByRecursion};
+ghost use Rattle.std.specs.Prelude.{◌≡◌, ◌==◌, ◌++◌, [], length, option_copied, IfSome, OnOk};
 ghost use Rattle.server_transaction.specs.Events.{changes_in};
 ghost use Rattle.server_transaction.specs.Shown.{find_writes, Shows};
-ghost use Rattle.server_transaction.specs.Stored.{events_in, schemas, HasRoom, IsKeyed, schemas_with};
+ghost use Rattle.server_transaction.specs.Stored.{events_in, schemas, HasRoom, schemas_with};
 
-use crate::keyed::{KeyedEvent, append_events, reserve_events};
+use crate::room::{append, make_room};
 use crate::tables::{reserve_for, write_to, written_to};
 use crate::writes::Writes;
-use base_values::Name;
+use base_values::{Key, Name, RowEvent};
 use server_seen::WrittenRows;
 use std::alloc::{AllocError, Global};
 use std::marker::Model;
@@ -18,19 +17,21 @@ use std::marker::Model;
 /// table, and for how much more it has room.
 #[derive(Drop)]
 pub struct Txn {
-    tables: Vec<WrittenRows>,
-    events: Vec<KeyedEvent>,
+    pub(crate) tables: Vec<WrittenRows>,
+    pub(crate) events: Vec<RowEvent>,
+    // for each event the key of the row that it takes out
+    pub(crate) gone: Vec<Option<Key>>,
 }
 
 impl Model for Txn {
-    ghost use Rattle.std.specs.Prelude.{◌-◌, map, vec_len, vec_capacity};
+    ghost use Rattle.std.specs.Prelude.{◌-◌, min, vec_len, vec_capacity};
     ghost use Rattle.server_transaction.specs.Stored.{StoredTxn, IsTxn};
 
     ghost Value = { StoredTxn };
 
-    ghost view = { λ t. record { events = map (λ one. one.event) t.events.items; tables = t.tables.items; event_room = vec_capacity t.events - vec_len t.events; table_room = vec_capacity t.tables - vec_len t.tables } };
+    ghost view = { λ t. record { events = t.events.items; tables = t.tables.items; event_room = min (vec_capacity t.events - vec_len t.events) (vec_capacity t.gone - vec_len t.gone); table_room = vec_capacity t.tables - vec_len t.tables } };
 
-    ghost invariant = { λ t. IsTxn t.tables.items t.events.items };
+    ghost invariant = { λ t. IsTxn t.tables.items t.events.items t.gone.items };
 }
 
 impl Txn {
@@ -42,7 +43,15 @@ impl Txn {
         Txn {
             tables: Vec::new(alloc),
             events: Vec::new(alloc),
+            gone: Vec::new(alloc),
         }
+    }
+
+    /// Its events, in order.
+    pub fn events(&self) -> &[RowEvent]
+        ensures { result.now ≡ self.now.events }
+    {
+        self.events.as_slice()
     }
 
     /// How many events it has.
@@ -73,7 +82,8 @@ impl Txn {
         ensures schemas { schemas self.new.tables ≡ schemas self.old.tables }
         ensures room { OnOk result (HasRoom self.new writes.now) }
     {
-        reserve_events(&mut self.events, writes.len())?;
+        make_room(&mut self.events, writes.len())?;
+        make_room(&mut self.gone, writes.len())?;
         reserve_for(&mut self.tables, writes.table(), writes.size())
     }
 
@@ -88,16 +98,10 @@ impl Txn {
             written,
             keys,
             events,
+            gone,
         } = writes;
         write_to(&mut self.tables, written, keys);
-        append_events(&mut self.events, events);
-    }
-
-    /// Its events, each with the key of the row that it takes out.
-    pub(crate) fn into_events(self) -> Vec<KeyedEvent>
-        ensures events { map (λ one. one.event) result.items ≡ self.events }
-        ensures keyed { AllByRecursion (λ one. IsKeyed one (find_writes one.event.table self.tables)) result.items }
-    {
-        self.events
+        append(&mut self.events, events);
+        append(&mut self.gone, gone);
     }
 }

@@ -1,12 +1,12 @@
 //! What one statement writes to its table, made ready.
 
 ghost use Rattle.std.specs.Prelude.{◌≡◌, ◌≤◌, ◌==◌, length, IfOk};
-ghost use Rattle.server_transaction.specs.Stored.{written_by};
+ghost use Rattle.server_transaction.specs.Stored.{events_in, written_by};
 
-use crate::keyed::{KeyedEvent, keyed_events};
+use crate::gone_keys::gone_keys;
 use base_values::gho_schema::Schema;
-use base_values::{Change, Keys, Name};
-use server_execute::written_by;
+use base_values::{Key, Keys, Name, RowEvent};
+use server_execute::{Changes, events_of, written_by};
 use server_seen::WrittenRows;
 use std::alloc::{AllocError, Global};
 use std::cmp::max;
@@ -18,7 +18,8 @@ use std::marker::Model;
 pub struct Writes {
     pub(crate) written: WrittenRows,
     pub(crate) keys: Keys,
-    pub(crate) events: Vec<KeyedEvent>,
+    pub(crate) events: Vec<RowEvent>,
+    pub(crate) gone: Vec<Option<Key>>,
 }
 
 impl Model for Writes {
@@ -27,24 +28,26 @@ impl Model for Writes {
 
     ghost Value = { TableChanges };
 
-    ghost view = { λ w. record { schema = w.written.schema; changes = map (λ one. one.event.change) w.events.items } };
+    ghost view = { λ w. record { schema = w.written.schema; changes = map (λ event. event.change) w.events.items } };
 
-    ghost invariant = { λ w. IsMade w.written.schema w.written.written w.keys w.events.items };
+    ghost invariant = { λ w. IsMade (record { schema = w.written.schema; changes = map (λ event. event.change) w.events.items }) w.written.written w.keys w.events.items w.gone.items };
 }
 
 impl Writes {
     /// The changes of the rows of a table of this schema, made ready.
-    pub fn new(alloc: Global, schema: &Schema, changes: &[Change]) -> Result<Writes, AllocError>
+    pub fn new(alloc: Global, schema: &Schema, changes: Changes) -> Result<Writes, AllocError>
         ensures schema { IfOk result (λ writes. writes.schema ≡ schema.now) }
-        ensures changes { IfOk result (λ writes. writes.changes ≡ changes.now) }
+        ensures changes { IfOk result (λ writes. writes.changes ≡ changes) }
     {
-        let written = written_by(alloc, schema, changes)?;
+        let written = written_by(alloc, schema, changes.as_slice())?;
         let keys = written.touched(alloc)?;
-        let events = keyed_events(alloc, &schema.name, schema.key_places(), changes)?;
+        let gone = gone_keys(alloc, schema.key_places(), changes.as_slice())?;
+        let events = events_of(alloc, &schema.name, changes)?.into_vec();
         Ok(Writes {
             written,
             keys,
             events,
+            gone,
         })
     }
 
@@ -53,6 +56,13 @@ impl Writes {
         ensures { result.now ≡ self.now.schema.name }
     {
         &self.written.schema().name
+    }
+
+    /// The changes as events.
+    pub fn events(&self) -> &[RowEvent]
+        ensures { result.now ≡ events_in self.now }
+    {
+        self.events.as_slice()
     }
 
     /// How many changes there are.

@@ -3,8 +3,9 @@
 ghost use Rattle.std.specs.Prelude.{◌≡◌, ◌≤◌, ◌==◌, ℕ, List, IfSome, is_some, option_copied};
 ghost use Rattle.std.specs.Option.{option_map};
 ghost use Rattle.std.specs.List.{position_or_len};
-ghost use Rattle.server_storage.specs.OpenTxns.Open.{txn_of, others, puts_open};
+ghost use Rattle.server_storage.specs.OpenTxns.Open.{txn_of, others, puts_open, written_of};
 
+use base_values::RowEvent;
 use server_transaction::Txn;
 
 /// The open transaction of a session.
@@ -28,6 +29,16 @@ pub fn txn_of(txns: &[OpenTxn], session: u32) -> Option<&OpenTxn>
     ensures { option_copied result ≡ txn_of session txns.now }
 {
     txns.iter().find(|one| one.session == session)
+}
+
+/// What the session of this number wrote, in order.
+pub fn events_of(txns: &[OpenTxn], session: u32) -> &[RowEvent]
+    ensures { result.now ≡ written_of session txns.now }
+{
+    match txn_of(txns, session) {
+        Some(one) => one.txn.events(),
+        None => &[],
+    }
 }
 
 /// Whether the session has an open transaction.

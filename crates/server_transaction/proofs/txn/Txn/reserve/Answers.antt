@@ -7,11 +7,15 @@ use Rattle.server_transaction.proofs.WrittenTxns.{alike_txn, alike_schemas, enou
 use Rattle.server_transaction.proofs.txn.Txn.reserve.Goals as goal
 
 pub invariant_of-self : goal.invariant_of-self
-invariant_of-self c = alike_txn c.self.inside.tables.items c.self.inside.tables.items c.self.inside.events.items c.reserve_events.new.events.items refl c.reserve_events.ensures.items c.self.invariant
+invariant_of-self c = alike_txn c.self.inside.tables.items c.self.inside.tables.items c.self.inside.events.items c.make_room.new.items.items c.self.inside.gone.items c.self.inside.gone.items refl c.make_room.ensures.items refl c.self.invariant
+
+pub invariant_of-self-in_err-make_room-2 : goal.invariant_of-self-in_err-make_room-2
+invariant_of-self-in_err-make_room-2 c =
+    alike_txn c.self.inside.tables.items c.self.inside.tables.items c.self.inside.events.items c.make_room.new.items.items c.self.inside.gone.items c.make_room-2.new.items.items refl c.make_room.ensures.items c.make_room-2.ensures.items c.self.invariant
 
 pub invariant_of-self-2 : goal.invariant_of-self-2
 invariant_of-self-2 c =
-    alike_txn c.self.inside.tables.items c.reserve_for.new.tables.items c.self.inside.events.items c.reserve_events.new.events.items c.reserve_for.ensures.plain c.reserve_events.ensures.items c.self.invariant
+    alike_txn c.self.inside.tables.items c.reserve_for.new.tables.items c.self.inside.events.items c.make_room.new.items.items c.self.inside.gone.items c.make_room-2.new.items.items c.reserve_for.ensures.plain c.make_room.ensures.items c.make_room-2.ensures.items c.self.invariant
 
 pub returns-clause-schemas : goal.returns-clause-schemas
 returns-clause-schemas c = rw (← c.self.view_is) (alike_schemas c.self.inside.tables.items c.reserve_for.new.tables.items c.reserve_for.ensures.plain)
@@ -21,7 +25,7 @@ returns-clause-room c =
     let room = vec_capacity c.reserve_for.new.tables - vec_len c.reserve_for.new.tables in
     on_ok_weaker c.reserve_for.result
     (λ has. record {
-      events = omega (arith, c.in_ok-reserve_events.ensures.room, c.len.ensures);
+      events = omega (arith, c.in_ok-make_room.ensures.room, c.in_ok-make_room-2.ensures.room, c.len.ensures, c.len-2.ensures);
       table = enough c.size.result room (written_by c.args.writes.now) (find_writes c.args.writes.now.schema.name c.reserve_for.new.tables.items) c.size.ensures.rows c.size.ensures.keys
           (subst (λ (n : List ℕ). HasRoomFor c.size.result (find_writes n c.reserve_for.new.tables.items) room) c.table.ensures has);
     }) c.reserve_for.ensures.room
