@@ -4,7 +4,6 @@ pub mod Gathered
 pub mod KeyTables
 pub mod MergedRows
 pub mod MetRows
-pub mod MovedRows
 pub mod SeenChanges
 pub mod SeenRows
 pub mod SeenTables

@@ -1,11 +1,8 @@
--- What is seen after changes, and through what was written later over what was written earlier.
+-- What is seen after changes.
 use Rattle.std.proofs.Common.{◌≡◌, ℕ, Bool, true, false, not, ◌&&◌, ◌||◌, List, [], ◌∷◌, refl, sym, ap, ◌∙◌, subst}
 use Rattle.std.proofs.lemmas.Bool.{or_left, or_right}
-use Rattle.std.specs.Ordering.{is_eq}
 use Rattle.std.specs.List.{AllByRecursion}
-use Rattle.std.proofs.lemmas.Cmp.{tied_itself}
-use Rattle.std.proofs.Math.Bool.{and-false, or_assoc}
-use Rattle.base_values.proofs.Orders.{keys_total}
+use Rattle.std.proofs.Math.Bool.{or_assoc}
 use Rattle.base_values.specs.GhoSchema.Rows.{key_of, with_row}
 use Rattle.base_values.specs.GhoSchema.Tables.{Ascends}
 use Rattle.base_values.specs.declared.event.Change.{Change}
@@ -18,11 +15,11 @@ use Rattle.table_store.proofs.FoundRows.{none_to_remove}
 use Rattle.table_store.proofs.RowLaws.{gone}
 use Rattle.server_model.specs.Rows.{same_row, stands, without_row, change_rows, change_all}
 use Rattle.server_model.proofs.LockedRows.Standing.{stands-put, stands-filter, one_list}
-use Rattle.server_seen.specs.Written.{Written, nothing, with_key, with_keys, is_touched, untouched, seen, removed, stored, wrote, wrote_all, written_over}
+use Rattle.server_seen.specs.Written.{Written, nothing, with_key, is_touched, seen, removed, stored, wrote, wrote_all}
 use Rattle.server_seen.specs.FittingChanges.{IsNewAmong, FitsRows, AllFit, IsWritten}
-use Rattle.server_seen.specs.Laws.{SeenRowsChange, ChangesAreSeen, LaterOverEarlier}
-use Rattle.server_seen.proofs.TouchedKeys.{stands-with_keys, touched-with_key, ascend-with_key, ascend-with_keys}
-use Rattle.server_seen.proofs.SeenRows.{stands-seen, all-put_all, ascends-seen, seen-nothing}
+use Rattle.server_seen.specs.Laws.{SeenRowsChange, ChangesAreSeen}
+use Rattle.server_seen.proofs.TouchedKeys.{touched-with_key, ascend-with_key}
+use Rattle.server_seen.proofs.SeenRows.{stands-seen, ascends-seen, seen-nothing}
 use Rattle.server_model.proofs.LockedRows.OneRow.{own_key, same_removal}
 
 -- what was touched stays so
@@ -146,47 +143,3 @@ pub changes_seen : ChangesAreSeen
 changes_seen places changes rows ascends fit =
     let all = all_seen places changes nothing rows rows ascends (nothing_seen places rows ascends) fit in
     (all.is_written, all.seen_is, all.ascends)
-
--- what was written later over what was written earlier
-touched_earlier : (places : List ℕ) (more keys rows : List Row) → AllByRecursion (λ row. is_touched places keys row ≡ true) rows → AllByRecursion (λ row. is_touched places (with_keys more keys) row ≡ true) rows
-touched_earlier places more keys [] all = tt
-touched_earlier places more keys (row ∷ rows) all =
-    (stands-with_keys (key_of places row) more keys ∙ or_right (is_touched places more row) (is_touched places keys row) all.0, touched_earlier places more keys rows all.1)
-
-touched_later : (places : List ℕ) (more keys rows : List Row) → AllByRecursion (λ row. is_touched places more row ≡ true) rows → AllByRecursion (λ row. is_touched places (with_keys more keys) row ≡ true) rows
-touched_later places more keys [] all = tt
-touched_later places more keys (row ∷ rows) all =
-    (stands-with_keys (key_of places row) more keys ∙ or_left (is_touched places more row) (is_touched places keys row) all.0, touched_later places more keys rows all.1)
-
-pub is_over : (places : List ℕ) (later earlier : Written) → IsWritten places later → IsWritten places earlier → IsWritten places (written_over places later earlier)
-unfolding written_over seen
-is_over places later earlier is was = record {
-  rows_ascend = ascends-seen places later earlier.rows is was.rows_ascend;
-  keys_ascend = ascend-with_keys later.keys earlier.keys was.keys_ascend;
-  touched = all-put_all (λ row. is_touched places (with_keys later.keys earlier.keys) row ≡ true) places later.rows (untouched places later.keys earlier.rows) (touched_later places later.keys earlier.keys later.rows is.touched)
-      (all-filter (λ row. is_touched places (with_keys later.keys earlier.keys) row ≡ true) (λ (r : Row). not (is_touched places later.keys r)) earlier.rows (touched_earlier places later.keys earlier.keys earlier.rows was.touched));
-}
-
-over_seen : (l e r t u : Bool) → ((l || (e && not t)) || (r && not (t || u))) ≡ (l || ((e || (r && not u)) && not t))
-over_seen true e r t u = refl
-over_seen false true r true u = and-false r
-over_seen false true r false u = refl
-over_seen false false true true true = refl
-over_seen false false true true false = refl
-over_seen false false true false true = refl
-over_seen false false true false false = refl
-over_seen false false false t u = refl
-
-pub later_over : LaterOverEarlier
-unfolding written_over
-later_over places later earlier rows is was ascends =
-    let over = is_over places later earlier is was in (
-      over,
-      one_list places (seen places (written_over places later earlier) rows) (seen places later (seen places earlier rows)) (ascends-seen places (written_over places later earlier) rows over ascends)
-          (ascends-seen places later (seen places earlier rows) is (ascends-seen places earlier rows was ascends)) (λ row.
-          stands-seen places row (written_over places later earlier) rows
-          ∙ ap (λ (b : Bool). b || (stands row rows && not (is_touched places (with_keys later.keys earlier.keys) row))) (stands-seen places row later earlier.rows)
-          ∙ ap (λ (b : Bool). (stands row later.rows || (stands row earlier.rows && not (is_touched places later.keys row))) || (stands row rows && not b)) (stands-with_keys (key_of places row) later.keys earlier.keys)
-          ∙ over_seen (stands row later.rows) (stands row earlier.rows) (stands row rows) (is_touched places later.keys row) (is_touched places earlier.keys row)
-          ∙ ap (λ (b : Bool). stands row later.rows || (b && not (is_touched places later.keys row))) (sym (stands-seen places row earlier rows)) ∙ sym (stands-seen places row later (seen places earlier rows))),
-    )

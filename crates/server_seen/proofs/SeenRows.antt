@@ -11,7 +11,6 @@ use Rattle.base_values.specs.GhoSchema.Tables.{Ascends}
 use Rattle.table_store.specs.RowLists.{is_at}
 use Rattle.table_store.specs.Databases.{TableRows}
 use Rattle.table_store.proofs.Orders.{Row}
-use Rattle.base_values.proofs.GhoSchema.Orders.{all-with_row}
 use Rattle.table_store.proofs.Ascending.{all-filter, ascends-with_row, ascends-filter}
 use Rattle.table_store.proofs.FoundRows.{none_found}
 use Rattle.table_store.proofs.RowLaws.{key_is, put_other}
@@ -34,10 +33,6 @@ unfolding seen
 stands-seen places row written rows =
     stands-put_all places row written.rows (untouched places written.keys rows) ∙ ap (λ (b : Bool). stands row written.rows || b) (stands-filter (λ (r : Row). not (is_touched places written.keys r)) row rows)
 
--- what holds of the one and of the others holds of all
-pub all-put_all : (P : Row → Type 0) (places : List ℕ) (more rows : List Row) → AllByRecursion P more → AllByRecursion P rows → AllByRecursion P (put_all places more rows)
-all-put_all P places [] rows more others = others
-all-put_all P places (row ∷ all) rows more others = all-with_row P places row (put_all places all rows) more.0 (all-put_all P places all rows more.1 others)
 
 -- a row whose key comes before all others is new among them
 less_not_at : (places : List ℕ) (row other : Row) → compare_keys (key_of places row) (key_of places other) ≡ Less → is_at places (key_of places row) other ≡ false

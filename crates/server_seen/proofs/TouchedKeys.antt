@@ -9,7 +9,7 @@ use Rattle.base_values.specs.GhoSchema.Rows.{key_of}
 use Rattle.table_store.specs.RowLists.{is_at}
 use Rattle.table_store.proofs.Orders.{Row, turned}
 use Rattle.server_model.specs.Rows.{same_row, stands}
-use Rattle.server_seen.specs.Written.{with_key, with_keys, is_touched}
+use Rattle.server_seen.specs.Written.{with_key, is_touched}
 use Rattle.server_seen.specs.FittingChanges.{KeysAscend}
 use Rattle.server_model.proofs.LockedRows.Tests.{or_swapped}
 use Rattle.table_store.proofs.PagedTables.RowPages.RowPlaces.{eq_turned}
@@ -36,12 +36,6 @@ moved_up : (a b c : Bool) → (b || (a || c)) ≡ ((a || b) || c)
 moved_up true true c = refl
 moved_up true false c = refl
 moved_up false b c = refl
-
-pub stands-with_keys : (other : Row) (more keys : List Row) → stands other (with_keys more keys) ≡ (stands other more || stands other keys)
-unfolding stands
-stands-with_keys other [] keys = refl
-stands-with_keys other (key ∷ more) keys =
-    stands-with_keys other more (with_key key keys) ∙ ap (λ (b : Bool). stands other more || b) (stands-with_key key other keys) ∙ moved_up (same_row other key) (stands other more) (stands other keys)
 
 -- whether a row's key does
 pub touched-with_key : (places : List ℕ) (key : Row) (keys : List Row) (row : Row) → is_touched places (with_key key keys) row ≡ (is_at places key row || is_touched places keys row)
@@ -76,7 +70,3 @@ pub ascend-with_key : (key : Row) (keys : List Row) → KeysAscend keys → Keys
 unfolding with_key
 ascend-with_key key [] ascends = (tt, tt)
 ascend-with_key key (first ∷ keys) ascends = placed_ascends (compare_keys key first) key first keys refl ascends (ascend-with_key key keys ascends.1)
-
-pub ascend-with_keys : (more keys : List Row) → KeysAscend keys → KeysAscend (with_keys more keys)
-ascend-with_keys [] keys ascends = ascends
-ascend-with_keys (key ∷ more) keys ascends = ascend-with_keys more (with_key key keys) (ascend-with_key key keys ascends)

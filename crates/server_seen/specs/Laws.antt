@@ -4,7 +4,7 @@ use Rattle.base_values.specs.declared.value.Value.{Value}
 use Rattle.base_values.specs.GhoSchema.Tables.{Ascends}
 use Rattle.base_values.specs.declared.event.Change.{Change}
 use Rattle.server_model.specs.Rows.{change_rows, change_all}
-use Rattle.server_seen.specs.Written.{Written, nothing, untouched, put_all, seen, wrote, wrote_all, written_over}
+use Rattle.server_seen.specs.Written.{Written, nothing, untouched, put_all, seen, wrote, wrote_all}
 use Rattle.server_seen.specs.FittingChanges.{FitsRows, AllFit, IsWritten}
 
 -- *Seen rows change*: where a change fits the rows that are seen, it leaves them in order, and what is seen after it was
@@ -25,10 +25,3 @@ abbrev pub SeenRowsPass : Type 0
 SeenRowsPass =
     (test : List Value → Bool) (places : List ℕ) (written : Written) (rows : List (List Value)) → IsWritten places written → Ascends places rows
     → filter test (seen places written rows) ≡ put_all places (filter test written.rows) (untouched places written.keys (filter test rows))
-
--- *Later over earlier*: through what was written later over what was written earlier is seen what is seen through the later
--- one of the rows that are seen through the earlier one.
-abbrev pub LaterOverEarlier : Type 0
-LaterOverEarlier =
-    (places : List ℕ) (later earlier : Written) (rows : List (List Value)) → IsWritten places later → IsWritten places earlier → Ascends places rows
-    → IsWritten places (written_over places later earlier) × (seen places (written_over places later earlier) rows ≡ seen places later (seen places earlier rows))

@@ -59,11 +59,3 @@ wrote places (Delete row) written = removed places (key_of places row) written
 unfoldable pub wrote_all : List ℕ → List Change → Written → Written
 wrote_all places [] written = written
 wrote_all places (change ∷ changes) written = wrote_all places changes (wrote places change written)
-
--- what was written later, over what was written before
-abbrev pub with_keys : List (List Value) → List (List Value) → List (List Value)
-with_keys [] keys = keys
-with_keys (key ∷ more) keys = with_keys more (with_key key keys)
-
-unfoldable pub written_over : List ℕ → Written → Written → Written
-written_over places later earlier = record { rows = seen places later earlier.rows; keys = with_keys later.keys earlier.keys }

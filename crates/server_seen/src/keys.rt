@@ -1,18 +1,16 @@
 //! Keys in order, each once.
 
 ghost use Rattle.std.specs.Prelude.{◌≡◌, ◌≤◌, ◌<◌, ◌+◌, ◌^◌, true, [], length, IfOk, OnOk};
-ghost use Rattle.std.specs.List.{AllByRecursion};
 ghost use Rattle.base_values.specs.GhoSchema.Rows.{key_places};
 ghost use Rattle.server_model.specs.Rows.{stands};
 ghost use Rattle.server_seen.specs.Stored.{counted};
 ghost use Rattle.server_seen.specs.Written.{with_key};
-ghost use Rattle.server_seen.specs.FittingChanges.{KeysAscend};
 
 use base_values::gho_schema::{Index, Places, Schema, clustered_key};
-use base_values::{Duplicate, Key, Keys, Sequence, Shared};
+use base_values::{Duplicate, Key, Sequence, Shared};
 use std::alloc::{AllocError, Global};
 use std::marker::Model;
-use table_store::paged_tables::row_pages::{SpanRows, Table};
+use table_store::paged_tables::row_pages::Table;
 
 /// Keys of one table in order, each once. Contracts see besides how many values a key has at most, and for how many more
 /// keys there is room.
@@ -90,17 +88,6 @@ fn schema_of_keys(alloc: Global, other: &Schema, places: Places) -> Result<Schem
     })
 }
 
-/// Copies of keys.
-fn copies_of(alloc: Global, mut keys: SpanRows<'_>) -> Result<Keys, AllocError>
-    ensures { IfOk result (λ copies. copies ≡ keys.entry) }
-{
-    let mut copies = Sequence::new(alloc);
-    while let Some(key) = keys.next() {
-        copies.push(key.copy()?)?;
-    }
-    Ok(copies)
-}
-
 impl KeySet {
     /// No keys of a table of this schema.
     pub fn new(alloc: Global, schema: &Schema) -> Result<KeySet, AllocError>
@@ -122,24 +109,6 @@ impl KeySet {
             Some(_) => true,
             None => false,
         }
-    }
-
-    /// The keys in order.
-    pub fn keys(&self) -> SpanRows<'_>
-        ensures keys { result ≡ self.now.keys }
-        ensures ascend { KeysAscend self.now.keys }
-        ensures lengths { AllByRecursion (λ key. length key ≤ self.now.width) self.now.keys }
-    {
-        // For the prover: `schema` says that the rows, which are the keys, are in order.
-        let _schema = self.table.schema();
-        self.table.rows()
-    }
-
-    /// Copies of the keys in order.
-    pub fn copies(&self, alloc: Global) -> Result<Keys, AllocError>
-        ensures { IfOk result (λ keys. keys ≡ self.now.keys) }
-    {
-        copies_of(alloc, self.table.rows())
     }
 
     /// Makes room for `n` more keys.

@@ -1,6 +1,6 @@
 //! What holds of all that is written to a table: each function's contract is a law.
 
-ghost use Rattle.server_seen.specs.Laws.{SeenRowsChange, ChangesAreSeen, SeenRowsPass, LaterOverEarlier};
+ghost use Rattle.server_seen.specs.Laws.{SeenRowsChange, ChangesAreSeen, SeenRowsPass};
 
 /// Where a change fits the rows that are seen, what is seen after it was written are the changed rows.
 pub fn seen_rows_change()
@@ -15,9 +15,4 @@ pub fn changes_are_seen()
 /// The seen rows that pass a test are seen of the rows that pass it.
 pub fn seen_rows_pass()
     ensures { SeenRowsPass }
-{}
-
-/// What was written later lies over what was written earlier.
-pub fn later_over_earlier()
-    ensures { LaterOverEarlier }
 {}

@@ -6,10 +6,9 @@ mod keys;
 pub mod laws;
 mod merge;
 mod met_rows;
-mod moves;
 mod seen;
 mod span_rows;
 mod written;
 
 pub use seen::SeenTable;
-pub use written::WrittenRows;
+pub use written::{KeyedRow, WrittenRows, keyed_row};

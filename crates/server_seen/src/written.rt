@@ -6,15 +6,14 @@ ghost use Rattle.base_values.specs.GhoSchema.Tables.{Ascends};
 ghost use Rattle.table_store.specs.RowLists.{is_at};
 ghost use Rattle.server_model.specs.Rows.{rows_met, stands};
 ghost use Rattle.server_model.specs.StatementResults.{displaced};
-ghost use Rattle.server_seen.specs.Written.{nothing, untouched, put_all, removed, stored, wrote, written_over};
+ghost use Rattle.server_seen.specs.Written.{nothing, untouched, put_all, removed, stored, wrote};
 ghost use Rattle.server_seen.specs.FittingChanges.{IsWritten};
 
 use crate::keys::KeySet;
 use crate::merge::merged;
 use crate::met_rows::{rows_clashing, rows_met};
-use crate::moves::lay_over;
 use base_values::gho_schema::{Schema, key_of};
-use base_values::{Change, Duplicate, Key, Keys, Row, Rows, Sequence};
+use base_values::{Change, Duplicate, Key, Row, Rows, Sequence};
 use server_model::Reach;
 use std::alloc::{AllocError, Global};
 use std::marker::Model;
@@ -41,15 +40,16 @@ impl Model for WrittenRows {
 
 /// A row and its key.
 #[derive(Drop)]
-struct KeyedRow {
-    key: Key,
-    row: Row,
+pub struct KeyedRow {
+    /// The clustered key.
+    pub key: Key,
+    /// The row.
+    pub row: Row,
 }
 
-/// A copy of a row, and its key.
-fn keyed(alloc: Global, places: &[usize], row: &Row) -> Result<KeyedRow, AllocError>
-    ensures key { IfOk result (λ keyed. keyed.key ≡ key_of places.now row.now) }
-    ensures row { IfOk result (λ keyed. keyed.row ≡ row.now) }
+/// A copy of a row, and its key at these places.
+pub fn keyed_row(alloc: Global, places: &[usize], row: &Row) -> Result<KeyedRow, AllocError>
+    ensures { IfOk result (λ keyed. keyed ≡ record { key = key_of places.now row.now; row = row.now }) }
 {
     Ok(KeyedRow {
         key: key_of(alloc, places, row.as_slice())?,
@@ -104,7 +104,7 @@ impl WrittenRows {
     }
 
     /// Takes the row of a key out.
-    fn remove(&mut self, key: Key)
+    pub fn remove(&mut self, key: Key)
         requires width { length key ≤ length (key_places self.old.schema) }
         requires room { 0 < self.old.spare }
         ensures schema { self.new.schema ≡ self.old.schema }
@@ -116,7 +116,7 @@ impl WrittenRows {
     }
 
     /// Puts a row in, in place of that of its key.
-    fn store(&mut self, key: Key, row: Row)
+    pub fn store(&mut self, key: Key, row: Row)
         requires key { key ≡ key_of (key_places self.old.schema) row }
         requires room { 0 < self.old.spare }
         ensures schema { self.new.schema ≡ self.old.schema }
@@ -138,13 +138,13 @@ impl WrittenRows {
         let places = self.rows.schema().key_places();
         match change {
             Change::Write(row) => {
-                let new = keyed(alloc, places, row)?;
+                let new = keyed_row(alloc, places, row)?;
                 self.reserve(1)?;
                 self.store(new.key, new.row);
             }
             Change::Update(before, after) => {
                 let old = key_of(alloc, places, before.as_slice())?;
-                let new = keyed(alloc, places, after)?;
+                let new = keyed_row(alloc, places, after)?;
                 self.reserve(2)?;
                 self.remove(old);
                 self.store(new.key, new.row);
@@ -194,37 +194,5 @@ impl WrittenRows {
         let places = self.rows.schema().key_places();
         let left = left(alloc, places, &self.keys, rows)?;
         merged(alloc, places, mine.as_slice(), left)
-    }
-
-    /// How many rows exist.
-    pub fn rows(&self) -> usize
-        ensures { result ≡ length self.now.written.rows }
-    {
-        self.rows.len()
-    }
-
-    /// Copies of the keys of all rows that were written or removed, in order.
-    pub fn touched(&self, alloc: Global) -> Result<Keys, AllocError>
-        ensures { IfOk result (λ keys. keys ≡ self.now.written.keys) }
-    {
-        self.keys.copies(alloc)
-    }
-
-    /// Lays what was written later over this, where its keys are also listed.
-    pub fn lay_over(&mut self, later: WrittenRows, keys: Keys)
-        requires schema { later.schema ≡ self.old.schema }
-        requires keys { keys ≡ later.written.keys }
-        requires row_room { length later.written.rows ≤ self.old.spare }
-        requires key_room { length later.written.keys ≤ self.old.spare }
-        ensures schema { self.new.schema ≡ self.old.schema }
-        ensures written { self.new.written ≡ written_over (key_places self.old.schema) later.written self.old.written }
-    {
-        let WrittenRows {
-            mut rows,
-            keys: touched,
-        } = later;
-        // For the prover: `keys` says that the keys ascend, and how long each is.
-        let _keys = touched.keys();
-        lay_over(keys, &mut rows, &mut self.rows, &mut self.keys);
     }
 }

@@ -1,10 +1,11 @@
 pub mod DoneEvents
 pub mod FoundTables
 pub mod GoneKeys
-pub mod LeftEvents
+pub mod LeftItems
 pub mod MadeWrites
 pub mod MoreWritten
 pub mod PreparedWork
+pub mod ReadyChanges
 pub mod Represented
 pub mod SaidEvents
 pub mod SeenTables

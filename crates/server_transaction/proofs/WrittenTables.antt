@@ -12,10 +12,12 @@ use Rattle.std.proofs.lemmas.List.Folds.{find_at, find-set, find_past, find-appe
 use Rattle.base_values.specs.declared.gho_schema.schema.Schema.{Schema}
 use Rattle.base_values.specs.GhoSchema.Rows.{key_places}
 use Rattle.server_model.proofs.LockedRows.Tests.{are_same, same_bytes}
-use Rattle.server_seen.specs.Written.{Written, written_over}
-use Rattle.server_seen.specs.Stored.{StoredWrites}
+use Rattle.server_seen.specs.Written.{Written}
+use Rattle.server_seen.specs.Stored.{StoredWrites, written_in}
+use Rattle.server_transaction.specs.declared.ready_changes.ReadyChange.{ReadyChange}
+use Rattle.server_transaction.specs.Ready.{wrote_each}
 use Rattle.server_transaction.specs.Shown.{find_writes}
-use Rattle.server_transaction.specs.Stored.{schemas, schemas_with, PlainWrites, plain, written_on, HasRoomFor, HasRoomIn, IsMore, IsWrittenTo}
+use Rattle.server_transaction.specs.Stored.{schemas, schemas_with, PlainWrites, plain, HasFresh, HasRoomFor, IsFresh, IsMore, IsWrittenTo}
 
 -- the table has the name
 abbrev pub named : List ℕ → StoredWrites → Bool
@@ -84,49 +86,49 @@ schemas_still schema tables table found = rw (has_schema schema.name tables, fou
 pub schemas_after : (schema : Schema) (tables : List StoredWrites) (now : StoredWrites) → find_writes schema.name tables ≡ None → now.schema ≡ schema → schemas (tables ++ now ∷ []) ≡ schemas_with schema (schemas tables)
 schemas_after schema tables now none is = map-append (λ (t : StoredWrites). t.schema) tables (now ∷ []) ∙ rw (has_schema schema.name tables, none, is) refl
 
--- what is laid over what was written at a place
-pub record IsLaying (later old : StoredWrites) : Type 0 where
-  pub same : later.schema ≡ old.schema
-  pub rows : length later.written.rows ≤ old.spare
-  pub keys : length later.written.keys ≤ old.spare
+-- what was written at a place has room
+pub record IsRoomy (n : ℕ) (schema : Schema) (old : StoredWrites) : Type 0 where
+  pub same : old.schema ≡ schema
+  pub room : n ≤ old.spare
 
-pub laying : (later : StoredWrites) (tables : List StoredWrites) (room place : ℕ) (old : StoredWrites) → place ≡ position_or_len (named later.schema.name) tables → place < length tables → old ≡ get_or tables place old
-    → IfSome (find_writes later.schema.name tables) (λ table. table.schema ≡ later.schema) → HasRoomIn later.written (find_writes later.schema.name tables) room → IsLaying later old
-laying later tables room place old is within at same rooms =
-    let found : find_writes later.schema.name tables ≡ Some old = found_there later.schema.name tables place old is within at in
-    let here : old.schema ≡ later.schema = subst (λ (o : Option StoredWrites). IfSome o (λ table. table.schema ≡ later.schema)) found same in
-    let both : HasRoomIn later.written (Some old) room = subst (λ (o : Option StoredWrites). HasRoomIn later.written o room) found rooms in
-    record { same = sym here; rows = both.0; keys = both.1 }
+pub roomy : (n : ℕ) (schema : Schema) (tables : List StoredWrites) (fresh : Option StoredWrites) (room place : ℕ) (old : StoredWrites) → place ≡ position_or_len (named schema.name) tables → place < length tables → old ≡ get_or tables place old
+    → IfSome (find_writes schema.name tables) (λ table. table.schema ≡ schema) → HasRoomFor n schema (find_writes schema.name tables) fresh room → IsRoomy n schema old
+roomy n schema tables fresh room place old is within at same rooms =
+    let found : find_writes schema.name tables ≡ Some old = found_there schema.name tables place old is within at in
+    record { same = subst (λ (o : Option StoredWrites). IfSome o (λ table. table.schema ≡ schema)) found same; room = subst (λ (o : Option StoredWrites). HasRoomFor n schema o fresh room) found rooms }
 
--- what is laid over is written to its table
-pub laid_there : (later : StoredWrites) (tables : List StoredWrites) (place : ℕ) (old now : StoredWrites) → place ≡ position_or_len (named later.schema.name) tables → place < length tables → old ≡ get_or tables place old → later.schema ≡ old.schema → now.schema ≡ old.schema
-    → now.written ≡ written_over (key_places old.schema) later.written old.written → IsWrittenTo later tables (set tables place now)
-laid_there later tables place old now is within at same still written_is =
-    let found : find_writes later.schema.name tables ≡ Some old = found_there later.schema.name tables place old is within at in
+-- more is written there
+pub wrote_there : (schema : Schema) (ready : List ReadyChange) (tables : List StoredWrites) (place : ℕ) (old now : StoredWrites) → place ≡ position_or_len (named schema.name) tables → place < length tables → old ≡ get_or tables place old → old.schema ≡ schema → now.schema ≡ old.schema
+    → now.written ≡ wrote_each (key_places old.schema) ready old.written → IsWrittenTo schema ready tables (set tables place now)
+wrote_there schema ready tables place old now is within at same still written_is =
+    let found : find_writes schema.name tables ≡ Some old = found_there schema.name tables place old is within at in
     record {
       writes = now;
-      more = written_there later.schema.name tables place old now is within at still;
-      same = still ∙ sym same;
-      written_is =
-          written_is ∙ ap (λ (s : Schema). written_over (key_places s) later.written old.written) (sym same)
-          ∙ ap (written_on later.schema later.written) (sym found);
-      schemas_are = schemas_there later.schema.name tables place old now at still ∙ schemas_still later.schema tables old found;
+      more = written_there schema.name tables place old now is within at still;
+      same = still ∙ same;
+      written_is = written_is ∙ ap (λ (s : Schema). wrote_each (key_places s) ready old.written) same ∙ ap (λ (o : Option StoredWrites). wrote_each (key_places schema) ready (written_in o)) (sym found);
+      schemas_are = schemas_there schema.name tables place old now at still ∙ schemas_still schema tables old found;
     }
 
-pub laid_after : (later : StoredWrites) (tables : List StoredWrites) (place : ℕ) → place ≡ position_or_len (named later.schema.name) tables → length tables ≤ place → IsWrittenTo later tables (tables ++ later ∷ [])
-laid_after later tables place is following =
-    let none : find_writes later.schema.name tables ≡ None = none_there later.schema.name tables place is following in
+-- where nothing was written to the table, a fresh one is at hand
+pub fresh_after : (n : ℕ) (schema : Schema) (tables : List StoredWrites) (fresh : Option StoredWrites) (room place : ℕ) → place ≡ position_or_len (named schema.name) tables → length tables ≤ place → HasRoomFor n schema (find_writes schema.name tables) fresh room → (1 ≤ room) × HasFresh n schema fresh
+fresh_after n schema tables fresh room place is following has = subst (λ (o : Option StoredWrites). HasRoomFor n schema o fresh room) (none_there schema.name tables place is following) has
+
+-- ... and is written to
+pub wrote_after : (n : ℕ) (schema : Schema) (ready : List ReadyChange) (tables : List StoredWrites) (place : ℕ) (fresh now : StoredWrites) → place ≡ position_or_len (named schema.name) tables → length tables ≤ place → IsFresh n schema fresh → now.schema ≡ fresh.schema
+    → now.written ≡ wrote_each (key_places fresh.schema) ready fresh.written → IsWrittenTo schema ready tables (tables ++ now ∷ [])
+wrote_after n schema ready tables place fresh now is following is_fresh still written_is =
+    let none : find_writes schema.name tables ≡ None = none_there schema.name tables place is following in
+    let same : now.schema ≡ schema = still ∙ is_fresh.same in
     record {
-      writes = later;
-      more = written_after later.schema.name tables later none refl;
-      same = refl;
-      written_is = ap (written_on later.schema later.written) (sym none);
-      schemas_are = schemas_after later.schema tables later none refl;
+      writes = now;
+      more = written_after schema.name tables now none (ap (λ (s : Schema). s.name) same);
+      same = same;
+      written_is =
+          written_is ∙ ap (λ (s : Schema). wrote_each (key_places s) ready fresh.written) is_fresh.same ∙ ap (wrote_each (key_places schema) ready) is_fresh.nothing_is
+          ∙ ap (λ (o : Option StoredWrites). wrote_each (key_places schema) ready (written_in o)) (sym none);
+      schemas_are = schemas_after schema tables now none same;
     }
-
--- there is room for one table more where nothing was written to the table
-pub room_after : (room : ℕ) (later : StoredWrites) (tables : List StoredWrites) (place : ℕ) → place ≡ position_or_len (named later.schema.name) tables → length tables ≤ place → HasRoomIn later.written (find_writes later.schema.name tables) room → 1 ≤ room
-room_after room later tables place is following has = subst (λ (o : Option StoredWrites). HasRoomIn later.written o room) (none_there later.schema.name tables place is following) has
 
 -- only the room of a table changes
 pub plain_there : (tables : List StoredWrites) (place : ℕ) (old now : StoredWrites) → old ≡ get_or tables place old → now.schema ≡ old.schema → now.written ≡ old.written → map plain (set tables place now) ≡ map plain tables
@@ -134,12 +136,13 @@ plain_there tables place old now at same written_is =
     let one : plain now ≡ plain old = ap {B = PlainWrites} (λ (s : Schema). record { schema = s; written = now.written }) same ∙ ap {B = PlainWrites} (λ (w : Written). record { schema = old.schema; written = w }) written_is in
     map-set_same plain tables place now old (one ∙ ap plain at)
 
-pub room_there : {E : Type 0} (result : Result (Unit {0}) E) (name : List ℕ) (tables : List StoredWrites) (n room place : ℕ) (old now : StoredWrites) → place ≡ position_or_len (named name) tables → place < length tables → old ≡ get_or tables place old → now.schema ≡ old.schema → OnOk result (n ≤ now.spare)
-    → OnOk result (HasRoomFor n (find_writes name (set tables place now)) room)
-room_there (Ok done) name tables n room place old now is within at same has = subst (λ (o : Option StoredWrites). HasRoomFor n o room) (sym (written_there name tables place old now is within at same).there) has
-room_there (Err fault) name tables n room place old now is within at same has = tt
+pub room_there : {E : Type 0} (result : Result (Unit {0}) E) (schema : Schema) (tables : List StoredWrites) (fresh : Option StoredWrites) (n room place : ℕ) (old now : StoredWrites) → place ≡ position_or_len (named schema.name) tables → place < length tables → old ≡ get_or tables place old → now.schema ≡ old.schema
+    → OnOk result (n ≤ now.spare) → OnOk result (HasRoomFor n schema (find_writes schema.name (set tables place now)) fresh room)
+room_there (Ok done) schema tables fresh n room place old now is within at same has = subst (λ (o : Option StoredWrites). HasRoomFor n schema o fresh room) (sym (written_there schema.name tables place old now is within at same).there) has
+room_there (Err fault) schema tables fresh n room place old now is within at same has = tt
 
-pub room_one : {E : Type 0} (result : Result (Unit {0}) E) (name : List ℕ) (tables now : List StoredWrites) (n room place : ℕ) → place ≡ position_or_len (named name) tables → length tables ≤ place → now ≡ tables → OnOk result (1 ≤ room) → OnOk result (HasRoomFor n (find_writes name now) room)
-room_one (Ok done) name tables now n room place is following same has =
-    subst (λ (o : Option StoredWrites). HasRoomFor n o room) (sym (ap (find_writes name) same ∙ none_there name tables place is following)) has
-room_one (Err fault) name tables now n room place is following same has = tt
+pub room_one : {E : Type 0} (result : Result (Unit {0}) E) (schema : Schema) (tables now : List StoredWrites) (fresh : StoredWrites) (n room place : ℕ) → place ≡ position_or_len (named schema.name) tables → length tables ≤ place → now ≡ tables → IsFresh n schema fresh → OnOk result (1 ≤ room)
+    → OnOk result (HasRoomFor n schema (find_writes schema.name now) (Some fresh) room)
+room_one (Ok done) schema tables now fresh n room place is following same is_fresh has =
+    subst (λ (o : Option StoredWrites). HasRoomFor n schema o (Some fresh) room) (sym (ap (find_writes schema.name) same ∙ none_there schema.name tables place is following)) (has, is_fresh)
+room_one (Err fault) schema tables now fresh n room place is following same is_fresh has = tt

@@ -11,32 +11,35 @@ use Rattle.base_values.specs.declared.event.Change.{Change}
 use Rattle.base_values.specs.declared.event.RowEvent.{RowEvent}
 use Rattle.table_store.proofs.Orders.{Row}
 use Rattle.server_model.specs.Operations.{events_of}
-use Rattle.server_seen.specs.Written.{Written, nothing, wrote_all}
-use Rattle.server_seen.specs.Stored.{StoredWrites}
+use Rattle.server_seen.specs.Written.{nothing, wrote_all}
+use Rattle.server_seen.specs.Stored.{StoredWrites, written_in}
+use Rattle.server_transaction.specs.declared.ready_changes.ReadyChange.{ReadyChange}
+use Rattle.server_transaction.specs.Ready.{ready_change, wrote_each}
 use Rattle.server_transaction.specs.Events.{changes_in, gone_key}
 use Rattle.server_transaction.specs.Shown.{find_writes, Shows, Represents}
-use Rattle.server_transaction.specs.Stored.{IsGone, IsTxn, PlainWrites, plain, written_on, HasRoomFor, HasRoomIn, IsWrittenTo, schemas}
-use Rattle.server_transaction.proofs.Represented.{represents_all, represents_over}
+use Rattle.server_transaction.specs.Stored.{IsGone, IsTxn, PlainWrites, plain, IsWrittenTo, schemas}
+use Rattle.server_transaction.proofs.Represented.{represents_all, represents_more}
+use Rattle.server_transaction.proofs.ReadyChanges.{all_gone, each_wrote}
 use Rattle.server_transaction.proofs.MoreWritten.{more_written}
 
--- what is written on what was written before represents all changes
-on_before : (schema : Schema) (before changes : List Change) (found : Option StoredWrites) → Shows before found → IfSome found (λ table. table.schema ≡ schema) → Represents (key_places schema) (before ++ changes) (written_on schema (wrote_all (key_places schema) changes nothing) found)
+-- what is written to what was written before represents all changes
+on_before : (schema : Schema) (before changes : List Change) (found : Option StoredWrites) → Shows before found → IfSome found (λ table. table.schema ≡ schema) → Represents (key_places schema) (before ++ changes) (wrote_all (key_places schema) changes (written_in found))
 on_before schema before changes None none same = subst (λ (cs : List Change). Represents (key_places schema) (cs ++ changes) (wrote_all (key_places schema) changes nothing)) (sym none) (represents_all (key_places schema) changes)
-on_before schema before changes (Some table) shows same =
-    represents_over (key_places schema) before changes (wrote_all (key_places schema) changes nothing) table.written (subst (λ (s : Schema). Represents (key_places s) before table.written) same shows) (represents_all (key_places schema) changes)
+on_before schema before changes (Some table) shows same = represents_more (key_places schema) before changes table.written (subst (λ (s : Schema). Represents (key_places s) before table.written) same shows)
 
-pub written_txn : (later : StoredWrites) (tables now : List StoredWrites) (events more all : List RowEvent) (gone keys every : List (Option Row)) (changes : List Change) → IsTxn tables events gone → IsWrittenTo later tables now → later.written ≡ wrote_all (key_places later.schema) changes nothing
-    → more ≡ events_of later.schema.name changes → keys ≡ map (gone_key (key_places later.schema)) changes → all ≡ events ++ more → every ≡ gone ++ keys → IfSome (find_writes later.schema.name tables) (λ table. table.schema ≡ later.schema) → IsTxn now all every
-written_txn later tables now events more all gone keys every changes txn to written_is made keys_are all_is every_is same =
-    let own : List ℕ = later.schema.name in
+pub written_txn : (schema : Schema) (ready : List ReadyChange) (tables now : List StoredWrites) (events more all : List RowEvent) (gone every : List (Option Row)) (changes : List Change) → IsTxn tables events gone → IsWrittenTo schema ready tables now → more ≡ events_of schema.name changes
+    → ready ≡ map (ready_change (key_places schema)) changes → all ≡ events ++ more → every ≡ gone ++ map (λ one. one.gone) ready → IfSome (find_writes schema.name tables) (λ table. table.schema ≡ schema) → IsTxn now all every
+written_txn schema ready tables now events more all gone every changes txn to made ready_are all_is every_is same =
+    let own : List ℕ = schema.name in
     let before : List Change = changes_in own events in
-    let represents : Represents (key_places later.schema) (before ++ changes) (written_on later.schema (wrote_all (key_places later.schema) changes nothing) (find_writes own tables)) = on_before later.schema before changes (find_writes own tables) (txn.shown own) same in
-    let written : written_on later.schema (wrote_all (key_places later.schema) changes nothing) (find_writes own tables) ≡ to.writes.written = ap (λ (w : Written). written_on later.schema w (find_writes own tables)) (sym written_is) ∙ sym to.written_is in
+    let represents : Represents (key_places schema) (before ++ changes) (wrote_all (key_places schema) changes (written_in (find_writes own tables))) = on_before schema before changes (find_writes own tables) (txn.shown own) same in
+    let written : wrote_all (key_places schema) changes (written_in (find_writes own tables)) ≡ to.writes.written =
+    sym (to.written_is ∙ ap (λ (rs : List ReadyChange). wrote_each (key_places schema) rs (written_in (find_writes own tables))) ready_are ∙ each_wrote (key_places schema) changes (written_in (find_writes own tables))) in
     let here : Represents (key_places to.writes.schema) (before ++ changes) to.writes.written =
-    subst (λ (s : Schema). Represents (key_places s) (before ++ changes) to.writes.written) (sym to.same) (subst (Represents (key_places later.schema) (before ++ changes)) written represents) in
+    subst (λ (s : Schema). Represents (key_places s) (before ++ changes) to.writes.written) (sym to.same) (subst (Represents (key_places schema) (before ++ changes)) written represents) in
+    let keys : map (λ (one : ReadyChange). one.gone) ready ≡ map (gone_key (key_places to.writes.schema)) changes = all_gone (key_places schema) changes ready ready_are ∙ ap (λ (s : Schema). map (gone_key (key_places s)) changes) (sym to.same) in
     subst (λ (es : List RowEvent). IsTxn now es every) (sym all_is)
-    (subst (IsTxn now (events ++ more)) (sym every_is)
-    (more_written own tables now to.writes events more gone keys changes txn to.more made (keys_are ∙ ap (λ (s : Schema). map (gone_key (key_places s)) changes) (sym to.same)) here))
+    (subst (IsTxn now (events ++ more)) (sym every_is) (more_written own tables now to.writes events more gone (map (λ (one : ReadyChange). one.gone) ready) changes txn to.more made keys here))
 
 -- equal but for their room, tables show the same
 plain_first : (name : List ℕ) (first : StoredWrites) (b : Bool) (found : Option StoredWrites) → option_map plain (cond b (Some first) found) ≡ cond b (Some (plain first)) (option_map plain found)
@@ -81,11 +84,6 @@ schemas_of_plain (first ∷ tables) = ap (λ (ss : List Schema). first.schema �
 pub alike_schemas : (tables now : List StoredWrites) → map plain now ≡ map plain tables → schemas now ≡ schemas tables
 alike_schemas tables now same = schemas_of_plain now ∙ ap (map (λ (p : PlainWrites). p.schema)) same ∙ sym (schemas_of_plain tables)
 
--- room for so many is room for what was written
-pub enough : (n room : ℕ) (written : Written) (found : Option StoredWrites) → length written.rows ≤ n → length written.keys ≤ n → HasRoomFor n found room → HasRoomIn written found room
-enough n room written None rows keys has = has
-enough n room written (Some table) rows keys has = let all : n ≤ table.spare = has in (omega (arith, rows, all), omega (arith, keys, all))
-
--- there are as many keys as changes
-pub keys_as_many : (places : List ℕ) (changes : List Change) (keys : List (Option Row)) → keys ≡ map (gone_key places) changes → length keys ≡ length changes
-keys_as_many places changes keys are = ap length are ∙ length-map changes (gone_key places)
+-- there are as many as changes
+pub as_many : (schema : Schema) (changes : List Change) (ready : List ReadyChange) → ready ≡ map (ready_change (key_places schema)) changes → length ready ≡ length changes
+as_many schema changes ready are = ap length are ∙ length-map changes (ready_change (key_places schema))

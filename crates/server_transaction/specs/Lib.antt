@@ -3,6 +3,7 @@ pub mod FittingEvents
 pub mod Laws
 pub mod Premises
 pub mod Prepared
+pub mod Ready
 pub mod Rooms
 pub mod Shown
 pub mod Stored

@@ -1,5 +1,5 @@
 -- What contracts see of a transaction, and of what one statement writes.
-use Rattle.std.specs.Prelude.{◌≡◌, ◌≤◌, ◌++◌, [], ◌∷◌, false, if◌then◌else◌, ℕ, List, length, map, Option, Some, None}
+use Rattle.std.specs.Prelude.{◌≡◌, ◌≤◌, ◌+◌, ◌++◌, [], ◌∷◌, false, if◌then◌else◌, ℕ, List, length, map, Option, Some, None}
 use Rattle.std.specs.List.{AllZip, list_any}
 use Rattle.std.specs.Str.{bytes_eq}
 use Rattle.base_values.specs.declared.value.Value.{Value}
@@ -8,9 +8,11 @@ use Rattle.base_values.specs.GhoSchema.Rows.{key_places}
 use Rattle.base_values.specs.declared.event.Change.{Change}
 use Rattle.base_values.specs.declared.event.RowEvent.{RowEvent}
 use Rattle.server_model.specs.Operations.{events_of}
-use Rattle.server_seen.specs.Written.{Written, nothing, wrote_all, written_over}
-use Rattle.server_seen.specs.Stored.{StoredWrites}
+use Rattle.server_seen.specs.Written.{Written, nothing}
+use Rattle.server_seen.specs.Stored.{StoredWrites, written_in}
+use Rattle.server_transaction.specs.declared.ready_changes.ReadyChange.{ReadyChange}
 use Rattle.server_transaction.specs.Events.{changes_in, gone_key}
+use Rattle.server_transaction.specs.Ready.{ready_change, wrote_each}
 use Rattle.server_transaction.specs.Shown.{find_writes, Shows}
 
 -- WHAT ONE STATEMENT WRITES
@@ -24,23 +26,19 @@ pub record TableChanges : Type 0 where
 abbrev pub events_in : TableChanges → List RowEvent
 events_in writes = events_of writes.schema.name writes.changes
 
--- ... as they are written: rows and keys of the table
-abbrev pub written_by : TableChanges → Written
-written_by writes = wrote_all (key_places writes.schema) writes.changes nothing
-
--- What is made ready of changes: what they write, its keys, the events, and the keys of the rows that they take out.
-pub record IsMade (writes : TableChanges) (written : Written) (keys : List (List Value)) (events : List RowEvent) (gone : List (Option (List Value))) : Type 0 where
-  pub written_is : written ≡ written_by writes
-  pub keys_are : keys ≡ written.keys
+-- What is made ready of changes: the events, and each change for itself.
+pub record IsMade (writes : TableChanges) (events : List RowEvent) (ready : List ReadyChange) : Type 0 where
   pub events_are : events ≡ events_in writes
-  pub gone_are : gone ≡ map (gone_key (key_places writes.schema)) writes.changes
+  pub ready_are : ready ≡ map (ready_change (key_places writes.schema)) writes.changes
 
 -- WHAT A TRANSACTION WROTE
 
--- its events, what they wrote to each table, and for how many more events and tables there is room
+-- its events, what they wrote to each table, what is at hand for one table more, where nothing is written yet, and for how many
+-- more events and tables there is room
 pub record StoredTxn : Type 0 where
   pub events : List RowEvent
   pub tables : List StoredWrites
+  pub fresh : Option StoredWrites
   pub event_room : ℕ
   pub table_room : ℕ
 
@@ -60,20 +58,26 @@ pub record IsTxn (tables : List StoredWrites) (events : List RowEvent) (gone : L
 
 -- WHAT IT HAS ROOM FOR
 
--- for this many rows and keys, in what was written to a table before; for one table more, where nothing was
-abbrev pub HasRoomFor : ℕ → Option StoredWrites → ℕ → Type 0
-HasRoomFor n None tables = 1 ≤ tables
-HasRoomFor n (Some writes) tables = n ≤ writes.spare
+-- *Fresh*: nothing is written to the table of this schema yet, and there is room for this many rows and keys.
+pub record IsFresh (n : ℕ) (schema : Schema) (fresh : StoredWrites) : Type 0 where
+  pub same : fresh.schema ≡ schema
+  pub nothing_is : fresh.written ≡ nothing
+  pub room : n ≤ fresh.spare
 
--- for what was written, in what was written to its table before
-abbrev pub HasRoomIn : Written → Option StoredWrites → ℕ → Type 0
-HasRoomIn written None tables = 1 ≤ tables
-HasRoomIn written (Some writes) tables = (length written.rows ≤ writes.spare) × (length written.keys ≤ writes.spare)
+-- a fresh one is at hand
+abbrev pub HasFresh : ℕ → Schema → Option StoredWrites → Type 0
+HasFresh n schema None = ⊥
+HasFresh n schema (Some fresh) = IsFresh n schema fresh
 
--- for what a statement writes
+-- for this many rows and keys, in what was written to a table before; where nothing was, for one table more, and that is at hand
+abbrev pub HasRoomFor : ℕ → Schema → Option StoredWrites → Option StoredWrites → ℕ → Type 0
+HasRoomFor n schema None fresh tables = (1 ≤ tables) × HasFresh n schema fresh
+HasRoomFor n schema (Some writes) fresh tables = n ≤ writes.spare
+
+-- for what a statement writes: a change may touch two keys
 pub record HasRoom (txn : StoredTxn) (writes : TableChanges) : Type 0 where
   pub events : length writes.changes ≤ txn.event_room
-  pub table : HasRoomIn (written_by writes) (find_writes writes.schema.name txn.tables) txn.table_room
+  pub table : HasRoomFor (length writes.changes + length writes.changes) writes.schema (find_writes writes.schema.name txn.tables) txn.fresh txn.table_room
 
 -- WHAT IS WRITTEN TO A TABLE
 
@@ -89,21 +93,16 @@ plain writes = record { schema = writes.schema; written = writes.written }
 abbrev pub schemas_with : Schema → List Schema → List Schema
 schemas_with schema others = if list_any (λ other. bytes_eq other.name schema.name) others then others else others ++ schema ∷ []
 
--- what was written later, over what was written to the table before, where something was
-abbrev pub written_on : Schema → Written → Option StoredWrites → Written
-written_on schema later None = later
-written_on schema later (Some earlier) = written_over (key_places schema) later earlier.written
-
 -- What was written to the table of this name is this now, and to all other tables what it was.
 pub record IsMore (name : List ℕ) (tables now : List StoredWrites) (writes : StoredWrites) : Type 0 where
   pub there : find_writes name now ≡ Some writes
   pub others : (other : List ℕ) → bytes_eq name other ≡ false → find_writes other now ≡ find_writes other tables
   pub schema : (was : StoredWrites) → find_writes name tables ≡ Some was → was.schema ≡ writes.schema
 
--- *Written to its table*: what was written later lies over what was written there before, and nothing else changed.
-pub record IsWrittenTo (later : StoredWrites) (tables now : List StoredWrites) : Type 0 where
+-- *Written to a table* of this schema: the changes are written there after what was written before, and nothing else changed.
+pub record IsWrittenTo (schema : Schema) (ready : List ReadyChange) (tables now : List StoredWrites) : Type 0 where
   pub writes : StoredWrites
-  pub more : IsMore later.schema.name tables now writes
-  pub same : writes.schema ≡ later.schema
-  pub written_is : writes.written ≡ written_on later.schema later.written (find_writes later.schema.name tables)
-  pub schemas_are : schemas now ≡ schemas_with later.schema (schemas tables)
+  pub more : IsMore schema.name tables now writes
+  pub same : writes.schema ≡ schema
+  pub written_is : writes.written ≡ wrote_each (key_places schema) ready (written_in (find_writes schema.name tables))
+  pub schemas_are : schemas now ≡ schemas_with schema (schemas tables)

@@ -40,6 +40,7 @@ pub fn commit(txn: Txn, tables: &mut Tables)
 {
     let Txn {
         tables: _written,
+        fresh: _unwritten,
         events,
         gone,
     } = txn;

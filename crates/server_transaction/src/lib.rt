@@ -4,10 +4,11 @@
 
 mod application;
 mod commits;
+mod events;
 mod execution;
-mod gone_keys;
 pub mod laws;
 mod prepared;
+mod ready_changes;
 mod room;
 pub mod row_copies;
 mod seen_tables;

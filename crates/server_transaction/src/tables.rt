@@ -1,14 +1,18 @@
 //! What a transaction wrote, table by table.
 
-ghost use Rattle.std.specs.Prelude.{◌≡◌, ◌≤◌, ◌-◌, ◌++◌, ◌∷◌, [], map, vec_len, vec_capacity, option_copied, IfSome, OnOk};
-ghost use Rattle.std.specs.List.{position_or_len};
+ghost use Rattle.std.specs.Prelude.{◌≡◌, ◌≤◌, ◌+◌, ◌-◌, ◌++◌, length, map, vec_len, vec_capacity, option_copied, IfOk, IfSome, OnOk};
+ghost use Rattle.std.specs.List.{AllByRecursion, position_or_len};
 ghost use Rattle.std.specs.Str.{bytes_eq};
+ghost use Rattle.base_values.specs.GhoSchema.Rows.{key_places};
+ghost use Rattle.server_transaction.specs.Ready.{IsReady};
 ghost use Rattle.server_transaction.specs.Shown.{find_writes};
-ghost use Rattle.server_transaction.specs.Stored.{plain, HasRoomFor, HasRoomIn, IsWrittenTo};
+ghost use Rattle.server_transaction.specs.Stored.{plain, HasRoomFor, IsFresh, IsWrittenTo};
 
-use base_values::{Keys, Name};
+use crate::ready_changes::{ReadyChange, write_each};
+use base_values::gho_schema::Schema;
+use base_values::{Key, Name};
 use server_seen::WrittenRows;
-use std::alloc::AllocError;
+use std::alloc::{AllocError, Global};
 
 fn is_named(name: &Name, table: &WrittenRows) -> bool
     ensures { result ≡ bytes_eq table.now.schema.name name.now }
@@ -41,32 +45,65 @@ fn reserve_one(tables: &mut Vec<WrittenRows>) -> Result<(), AllocError>
     tables.reserve(1)
 }
 
-/// Makes room for `n` rows and keys in what was written to the table of this name, or for that table.
-pub fn reserve_for(tables: &mut Vec<WrittenRows>, name: &Name, n: usize) -> Result<(), AllocError>
-    ensures plain { map plain tables.new.items ≡ map plain tables.old.items }
-    ensures room { OnOk result (HasRoomFor n (find_writes name.now tables.new.items) (vec_capacity tables.new - vec_len tables.new)) }
+/// A table of this schema to which nothing is written yet, with room for `n` rows and keys.
+fn fresh_rows(alloc: Global, schema: &Schema, n: usize) -> Result<WrittenRows, AllocError>
+    ensures { IfOk result (IsFresh n schema.now) }
 {
-    let place = place_of(tables.as_slice(), name);
+    let mut fresh = WrittenRows::new(alloc, schema)?;
+    fresh.reserve(n)?;
+    Ok(fresh)
+}
+
+/// Makes room for `n` rows and keys in what was written to the table of this schema, or for that table.
+pub fn reserve_for(
+    alloc: Global,
+    tables: &mut Vec<WrittenRows>,
+    fresh: &mut Option<WrittenRows>,
+    schema: &Schema,
+    n: usize,
+) -> Result<(), AllocError>
+    ensures plain { map plain tables.new.items ≡ map plain tables.old.items }
+    ensures room { OnOk result (HasRoomFor n schema.now (find_writes schema.now.name tables.new.items) fresh.new (vec_capacity tables.new - vec_len tables.new)) }
+{
+    let place = place_of(tables.as_slice(), &schema.name);
     if place < tables.len() {
         let table = &mut tables[place];
         table.reserve(n)
     } else {
+        let rows = fresh_rows(alloc, schema, n)?;
+        *fresh = Some(rows);
         reserve_one(tables)
     }
 }
 
-/// Lays what was written over what was written to its table before.
-pub fn write_to(tables: &mut Vec<WrittenRows>, written: WrittenRows, keys: Keys)
-    requires keys { keys ≡ written.written.keys }
-    requires schema { IfSome (find_writes written.schema.name tables.old.items) (λ table. table.schema ≡ written.schema) }
-    requires room { HasRoomIn written.written (find_writes written.schema.name tables.old.items) (vec_capacity tables.old - vec_len tables.old) }
-    ensures { IsWrittenTo written tables.old.items tables.new.items }
+/// Writes changes to what was written to the table of this schema, and adds the keys of the rows that they take out.
+pub fn write_to(
+    tables: &mut Vec<WrittenRows>,
+    fresh: &mut Option<WrittenRows>,
+    keys: &mut Vec<Option<Key>>,
+    schema: &Schema,
+    ready: Vec<ReadyChange>,
+)
+    requires ready { AllByRecursion (IsReady (key_places schema.now)) ready.items }
+    requires schema { IfSome (find_writes schema.now.name tables.old.items) (λ table. table.schema ≡ schema.now) }
+    requires room { HasRoomFor (length ready.items + length ready.items) schema.now (find_writes schema.now.name tables.old.items) fresh.old (vec_capacity tables.old - vec_len tables.old) }
+    requires key_room { length ready.items ≤ vec_capacity keys.old - vec_len keys.old }
+    ensures tables { IsWrittenTo schema.now ready.items tables.old.items tables.new.items }
+    ensures keys { keys.new.items ≡ keys.old.items ++ map (λ one. one.gone) ready.items }
 {
-    let place = place_of(tables.as_slice(), &written.schema().name);
+    let place = place_of(tables.as_slice(), &schema.name);
     if place < tables.len() {
         let table = &mut tables[place];
-        table.lay_over(written, keys);
+        write_each(table, keys, ready);
     } else {
-        tables.push_reserved(written);
+        let taken = fresh.take();
+        match taken {
+            Some(mut table) => {
+                write_each(&mut table, keys, ready);
+                tables.push_reserved(table);
+            }
+            // Room was made for a table more.
+            None => unreachable!(),
+        }
     }
 }

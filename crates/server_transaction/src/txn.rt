@@ -18,6 +18,8 @@ use std::marker::Model;
 #[derive(Drop)]
 pub struct Txn {
     pub(crate) tables: Vec<WrittenRows>,
+    // for one table more: nothing is written to it yet
+    pub(crate) fresh: Option<WrittenRows>,
     pub(crate) events: Vec<RowEvent>,
     // for each event the key of the row that it takes out
     pub(crate) gone: Vec<Option<Key>>,
@@ -29,7 +31,7 @@ impl Model for Txn {
 
     ghost Value = { StoredTxn };
 
-    ghost view = { λ t. record { events = t.events.items; tables = t.tables.items; event_room = min (vec_capacity t.events - vec_len t.events) (vec_capacity t.gone - vec_len t.gone); table_room = vec_capacity t.tables - vec_len t.tables } };
+    ghost view = { λ t. record { events = t.events.items; tables = t.tables.items; fresh = t.fresh; event_room = min (vec_capacity t.events - vec_len t.events) (vec_capacity t.gone - vec_len t.gone); table_room = vec_capacity t.tables - vec_len t.tables } };
 
     ghost invariant = { λ t. IsTxn t.tables.items t.events.items t.gone.items };
 }
@@ -42,6 +44,7 @@ impl Txn {
     {
         Txn {
             tables: Vec::new(alloc),
+            fresh: None,
             events: Vec::new(alloc),
             gone: Vec::new(alloc),
         }
@@ -84,7 +87,17 @@ impl Txn {
     {
         make_room(&mut self.events, writes.len())?;
         make_room(&mut self.gone, writes.len())?;
-        reserve_for(&mut self.tables, writes.table(), writes.size())
+        let Some(size) = writes.size() else {
+            return Err(AllocError);
+        };
+        let alloc = *self.tables.allocator();
+        reserve_for(
+            alloc,
+            &mut self.tables,
+            &mut self.fresh,
+            writes.schema(),
+            size,
+        )
     }
 
     /// Writes down what a statement writes to a table of the schema that it is known by.
@@ -95,13 +108,17 @@ impl Txn {
         ensures schemas { schemas self.new.tables ≡ schemas_with writes.schema (schemas self.old.tables) }
     {
         let Writes {
-            written,
-            keys,
+            schema,
             events,
-            gone,
+            ready,
         } = writes;
-        write_to(&mut self.tables, written, keys);
+        write_to(
+            &mut self.tables,
+            &mut self.fresh,
+            &mut self.gone,
+            &schema,
+            ready,
+        );
         append(&mut self.events, events);
-        append(&mut self.gone, gone);
     }
 }

@@ -1,25 +1,23 @@
 //! What one statement writes to its table, made ready.
 
-ghost use Rattle.std.specs.Prelude.{◌≡◌, ◌≤◌, ◌==◌, length, IfOk};
-ghost use Rattle.server_transaction.specs.Stored.{events_in, written_by};
+ghost use Rattle.std.specs.Prelude.{◌≡◌, ◌==◌, ◌+◌, length, IfOk, IfSome};
+ghost use Rattle.server_transaction.specs.Stored.{events_in};
 
-use crate::gone_keys::gone_keys;
+use crate::events::events_of;
+use crate::ready_changes::{ReadyChange, ready_changes};
 use base_values::gho_schema::Schema;
-use base_values::{Key, Keys, Name, RowEvent};
-use server_execute::{Changes, events_of, written_by};
-use server_seen::WrittenRows;
+use base_values::{Duplicate, Name, RowEvent};
+use server_execute::Changes;
 use std::alloc::{AllocError, Global};
-use std::cmp::max;
 use std::marker::Model;
 
 /// What one statement writes to its table: all that is needed to write it without memory. Contracts see the table's schema
 /// and the changes of its rows.
 #[derive(Drop)]
 pub struct Writes {
-    pub(crate) written: WrittenRows,
-    pub(crate) keys: Keys,
+    pub(crate) schema: Schema,
     pub(crate) events: Vec<RowEvent>,
-    pub(crate) gone: Vec<Option<Key>>,
+    pub(crate) ready: Vec<ReadyChange>,
 }
 
 impl Model for Writes {
@@ -28,9 +26,9 @@ impl Model for Writes {
 
     ghost Value = { TableChanges };
 
-    ghost view = { λ w. record { schema = w.written.schema; changes = map (λ event. event.change) w.events.items } };
+    ghost view = { λ w. record { schema = w.schema; changes = map (λ event. event.change) w.events.items } };
 
-    ghost invariant = { λ w. IsMade (record { schema = w.written.schema; changes = map (λ event. event.change) w.events.items }) w.written.written w.keys w.events.items w.gone.items };
+    ghost invariant = { λ w. IsMade (record { schema = w.schema; changes = map (λ event. event.change) w.events.items }) w.events.items w.ready.items };
 }
 
 impl Writes {
@@ -39,23 +37,28 @@ impl Writes {
         ensures schema { IfOk result (λ writes. writes.schema ≡ schema.now) }
         ensures changes { IfOk result (λ writes. writes.changes ≡ changes) }
     {
-        let written = written_by(alloc, schema, changes.as_slice())?;
-        let keys = written.touched(alloc)?;
-        let gone = gone_keys(alloc, schema.key_places(), changes.as_slice())?;
-        let events = events_of(alloc, &schema.name, changes)?.into_vec();
+        let ready = ready_changes(alloc, schema.key_places(), changes.as_slice())?;
+        let events = events_of(alloc, &schema.name, changes)?;
+        let copy = schema.copy()?;
         Ok(Writes {
-            written,
-            keys,
+            schema: copy,
             events,
-            gone,
+            ready,
         })
+    }
+
+    /// The table's schema.
+    pub(crate) fn schema(&self) -> &Schema
+        ensures { result.now ≡ self.now.schema }
+    {
+        &self.schema
     }
 
     /// The table's name.
     pub fn table(&self) -> &Name
         ensures { result.now ≡ self.now.schema.name }
     {
-        &self.written.schema().name
+        &self.schema.name
     }
 
     /// The changes as events.
@@ -79,11 +82,11 @@ impl Writes {
         self.events.is_empty()
     }
 
-    /// For how many rows and keys there has to be room in what was written to the table before.
-    pub(crate) fn size(&self) -> usize
-        ensures rows { length (written_by self.now).rows ≤ result }
-        ensures keys { length (written_by self.now).keys ≤ result }
+    /// For how many rows and keys there has to be room in what was written to the table: a change may touch two keys. None where
+    /// no number says how many.
+    pub(crate) fn size(&self) -> Option<usize>
+        ensures { IfSome result (λ n. n ≡ length self.now.changes + length self.now.changes) }
     {
-        max(self.written.rows(), self.keys.len())
+        self.events.len().checked_add(self.events.len())
     }
 }

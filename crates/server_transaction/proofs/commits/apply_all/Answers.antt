@@ -11,7 +11,7 @@ use Rattle.server_transaction.specs.FittingEvents.{EventsFit}
 use Rattle.server_transaction.specs.Premises.{IsGoneIn}
 use Rattle.server_transaction.specs.Rooms.{puts_in}
 use Rattle.server_transaction.proofs.Spares.{IsDone, one_done, IsNext, next_one, none_after, none_puts}
-use Rattle.server_transaction.proofs.LeftEvents.{next_is, none_left}
+use Rattle.server_transaction.proofs.LeftItems.{next_is, none_left}
 use Rattle.server_transaction.proofs.commits.apply_all.Goals as goal
 
 pub apply-requires-clause-fits : goal.apply-requires-clause-fits

@@ -11,16 +11,16 @@ returns-then-place-len-clause-plain c =
 
 pub returns-then-place-len-clause-room : goal.returns-then-place-len-clause-room
 returns-then-place-len-clause-room c =
-    let place_is : c.place_of-place.result ≡ position_or_len (named c.args.name.now) c.args.tables.now.items =
-    c.place_of-place.ensures ∙ ap (λ (ts : List StoredWrites). position_or_len (named c.args.name.now) ts) c.as_slice.ensures.value in
+    let place_is : c.place_of-place.result ≡ position_or_len (named c.args.schema.now.name) c.args.tables.now.items =
+    c.place_of-place.ensures ∙ ap (λ (ts : List StoredWrites). position_or_len (named c.args.schema.now.name) ts) c.as_slice.ensures.value in
     let many : length c.args.tables.now.items ≡ vec_len c.args.tables.now = ap length (sym c.as_slice.ensures.value) ∙ c.as_slice.ensures.len in
     let within : c.place_of-place.result < length c.args.tables.now.items = omega (arith, many, c.len.ensures, c.if-place-len.true) in
-    room_there c.reserve.result c.args.name.now c.args.tables.now.items c.args.n _ c.place_of-place.result c.index_mut-table.result.now c.reserve.new.self place_is within c.index_mut-table.ensures.value c.reserve.ensures.schema c.reserve.ensures.ok
+    room_there c.reserve.result c.args.schema.now c.args.tables.now.items c.args.fresh.now c.args.n _ c.place_of-place.result c.index_mut-table.result.now c.reserve.new.self place_is within c.index_mut-table.ensures.value c.reserve.ensures.schema c.reserve.ensures.ok
 
-pub returns-else-place-len-clause-room : goal.returns-else-place-len-clause-room
-returns-else-place-len-clause-room c =
-    let place_is : c.place_of-place.result ≡ position_or_len (named c.args.name.now) c.args.tables.now.items =
-    c.place_of-place.ensures ∙ ap (λ (ts : List StoredWrites). position_or_len (named c.args.name.now) ts) c.as_slice.ensures.value in
+pub returns-clause-room : goal.returns-clause-room
+returns-clause-room c =
+    let place_is : c.place_of-place.result ≡ position_or_len (named c.args.schema.now.name) c.args.tables.now.items =
+    c.place_of-place.ensures ∙ ap (λ (ts : List StoredWrites). position_or_len (named c.args.schema.now.name) ts) c.as_slice.ensures.value in
     let many : length c.args.tables.now.items ≡ vec_len c.args.tables.now = ap length (sym c.as_slice.ensures.value) ∙ c.as_slice.ensures.len in
     let following : length c.args.tables.now.items ≤ c.place_of-place.result = omega (arith, many, c.len.ensures, c.if-place-len.false) in
-    room_one c.reserve_one.result c.args.name.now c.args.tables.now.items c.reserve_one.new.tables.items c.args.n (vec_capacity c.reserve_one.new.tables - vec_len c.reserve_one.new.tables) c.place_of-place.result place_is following c.reserve_one.ensures.items c.reserve_one.ensures.room
+    room_one c.reserve_one.result c.args.schema.now c.args.tables.now.items c.reserve_one.new.tables.items c.in_ok-rows.rows c.args.n (vec_capacity c.reserve_one.new.tables - vec_len c.reserve_one.new.tables) c.place_of-place.result place_is following c.reserve_one.ensures.items c.in_ok-rows.ensures c.reserve_one.ensures.room

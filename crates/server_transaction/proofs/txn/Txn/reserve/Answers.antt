@@ -1,9 +1,10 @@
-use Rattle.std.proofs.Common.{◌-◌, ℕ, List, refl, subst, arith}
+use Rattle.std.proofs.Common.{◌-◌, ◌+◌, ℕ, length, refl, subst, arith}
 use Rattle.std.specs.Prelude.{vec_len, vec_capacity}
 use Rattle.std.proofs.lemmas.Result.{on_ok_weaker}
+use Rattle.base_values.specs.declared.gho_schema.schema.Schema.{Schema}
 use Rattle.server_transaction.specs.Shown.{find_writes}
-use Rattle.server_transaction.specs.Stored.{written_by, HasRoomFor}
-use Rattle.server_transaction.proofs.WrittenTxns.{alike_txn, alike_schemas, enough}
+use Rattle.server_transaction.specs.Stored.{HasRoomFor}
+use Rattle.server_transaction.proofs.WrittenTxns.{alike_txn, alike_schemas}
 use Rattle.server_transaction.proofs.txn.Txn.reserve.Goals as goal
 
 pub invariant_of-self : goal.invariant_of-self
@@ -11,6 +12,10 @@ invariant_of-self c = alike_txn c.self.inside.tables.items c.self.inside.tables.
 
 pub invariant_of-self-in_err-make_room-2 : goal.invariant_of-self-in_err-make_room-2
 invariant_of-self-in_err-make_room-2 c =
+    alike_txn c.self.inside.tables.items c.self.inside.tables.items c.self.inside.events.items c.make_room.new.items.items c.self.inside.gone.items c.make_room-2.new.items.items refl c.make_room.ensures.items c.make_room-2.ensures.items c.self.invariant
+
+pub invariant_of-self-in_default : goal.invariant_of-self-in_default
+invariant_of-self-in_default c =
     alike_txn c.self.inside.tables.items c.self.inside.tables.items c.self.inside.events.items c.make_room.new.items.items c.self.inside.gone.items c.make_room-2.new.items.items refl c.make_room.ensures.items c.make_room-2.ensures.items c.self.invariant
 
 pub invariant_of-self-2 : goal.invariant_of-self-2
@@ -26,6 +31,6 @@ returns-clause-room c =
     on_ok_weaker c.reserve_for.result
     (λ has. record {
       events = omega (arith, c.in_ok-make_room.ensures.room, c.in_ok-make_room-2.ensures.room, c.len.ensures, c.len-2.ensures);
-      table = enough c.size.result room (written_by c.args.writes.now) (find_writes c.args.writes.now.schema.name c.reserve_for.new.tables.items) c.size.ensures.rows c.size.ensures.keys
-          (subst (λ (n : List ℕ). HasRoomFor c.size.result (find_writes n c.reserve_for.new.tables.items) room) c.table.ensures has);
+      table = subst (λ (s : Schema). HasRoomFor (length c.args.writes.now.changes + length c.args.writes.now.changes) s (find_writes s.name c.reserve_for.new.tables.items) c.reserve_for.new.fresh room) c.schema.ensures
+          (subst (λ (n : ℕ). HasRoomFor n c.schema.result.now (find_writes c.schema.result.now.name c.reserve_for.new.tables.items) c.reserve_for.new.fresh room) c.in-Some.ensures has);
     }) c.reserve_for.ensures.room
