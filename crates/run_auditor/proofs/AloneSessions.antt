@@ -5,26 +5,22 @@ use Rattle.base_values.specs.declared.event.RowEvent.{RowEvent}
 use Rattle.base_script.specs.declared.statement.Statement.{Statement}
 use Rattle.table_store.specs.Databases.{Database}
 use Rattle.server_model.specs.declared.work.StatementResult.{StatementResult}
-use Rattle.server_model.specs.declared.work.Work.{Work}
 use Rattle.server_model.specs.declared.transaction.TxnLine.{TxnLine}
 use Rattle.server_model.specs.Alone.{Ran, alone, lines_run, nothing_ran, outcome_if, stays}
 use Rattle.server_model.specs.Operations.{after_events, operation_of, statement_result, table_of}
 use Rattle.server_model.specs.LockedRows.Databases.{IsWellFormedDatabase}
 use Rattle.server_model.proofs.LockedRows.Stables.{after_events-append, statements_keep}
 use Rattle.server_model.proofs.LockedRows.Tests.{are_one}
+use Rattle.server_execute.specs.declared.found_work.FoundWork.{FoundWork}
 use Rattle.server_transaction.specs.FittingEvents.{EventsFit}
 use Rattle.server_transaction.specs.Prepared.{IsWorkOf, work_result}
 use Rattle.server_transaction.proofs.PreparedWork.{work_gives}
 use Rattle.server_transaction.proofs.SaidEvents.{said_fits}
 use Rattle.run_auditor.specs.AloneSessions.{IsAlone}
 
--- the work that a statement prepared gives what the statement says
-pub said_of : (tables other : Database) (events : List RowEvent) (statement : Statement) (name : List ℕ) (work : Option Work) → IsWellFormedDatabase (after_events tables events) → other ≡ tables
-    → ((all : List RowEvent) → IsWellFormedDatabase (after_events other all) → IsWorkOf (after_events other all) (operation_of statement) work) → name ≡ table_of statement → work_result (after_events tables events) name work ≡ statement_result (after_events tables events) statement
-said_of tables other events statement name work well_formed same works own =
-    let here : (all : List RowEvent) → IsWellFormedDatabase (after_events tables all) → IsWorkOf (after_events tables all) (operation_of statement) work =
-    subst (λ (d : Database). (all : List RowEvent) → IsWellFormedDatabase (after_events d all) → IsWorkOf (after_events d all) (operation_of statement) work) same works in
-    ap (λ (n : List ℕ). work_result (after_events tables events) n work) own ∙ work_gives (after_events tables events) (operation_of statement) work (here events well_formed)
+-- a statement's work gives what the statement says
+pub said_of : (tables : Database) (statement : Statement) (name : List ℕ) (work : Option FoundWork) → IsWorkOf tables (operation_of statement) work → name ≡ table_of statement → work_result tables name work ≡ statement_result tables statement
+said_of tables statement name work is own = ap (λ (n : List ℕ). work_result tables n work) own ∙ work_gives tables (operation_of statement) work is
 
 -- it says the same on the same tables
 pub says_still : (was now : Database) (writes more : List RowEvent) (statement : Statement) → now ≡ was → more ≡ writes → statement_result (after_events now more) statement ≡ statement_result (after_events was writes) statement

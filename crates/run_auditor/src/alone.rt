@@ -16,7 +16,7 @@ use server_model::statements::statements_keep_tables;
 use server_model::{Answer, Mark, Replies, Reply, TxnLine};
 use server_storage::Storage;
 use server_transaction::laws::said_events_fit;
-use server_transaction::{ReadyResult, statement_work, table_of};
+use server_transaction::{ReadyResult, table_of};
 use std::alloc::{AllocError, Global};
 
 /// The one session.
@@ -70,24 +70,20 @@ fn keep(storage: &mut Storage, executed: ReadyResult, statement: &Statement) -> 
 }
 
 /// Does a statement, and answers it.
-fn do_statement(
-    alloc: Global,
-    storage: &mut Storage,
-    statement: &Statement,
-) -> Result<Answer, AllocError>
+fn do_statement(storage: &mut Storage, statement: &Statement) -> Result<Answer, AllocError>
     requires { IsAlone (committed storage.old) (written storage.old) }
     ensures answer { IfOk result (λ answer. answer ≡ (statement_result (after_events (committed storage.old) (written storage.old 1)) statement.now).answer) }
     ensures written { OnOk result (written storage.new 1 ≡ written storage.old 1 ++ (statement_result (after_events (committed storage.old) (written storage.old 1)) statement.now).events) }
     ensures committed { committed storage.new ≡ committed storage.old }
     ensures alone { OnOk result (IsAlone (committed storage.new) (written storage.new)) }
 {
-    let work = statement_work(alloc, storage.tables(), statement)?;
+    let work = storage.find_work(SESSION, statement)?;
     let executed = storage.execute(SESSION, table_of(statement), work)?;
     Ok(keep(storage, executed, statement))
 }
 
 /// Does a line, and answers it. BEGIN, COMMIT and ROLLBACK are answered ok 0.
-fn do_word(alloc: Global, storage: &mut Storage, word: &ScriptWord) -> Result<Answer, AllocError>
+fn do_word(storage: &mut Storage, word: &ScriptWord) -> Result<Answer, AllocError>
     requires { IsAlone (committed storage.old) (written storage.old) }
     ensures answer { IfOk result (λ answer. answer ≡ (line_says (after_events (committed storage.old) (written storage.old 1)) word.now).answer) }
     ensures written { OnOk result (written storage.new 1 ≡ written storage.old 1 ++ (line_says (after_events (committed storage.old) (written storage.old 1)) word.now).events) }
@@ -95,17 +91,13 @@ fn do_word(alloc: Global, storage: &mut Storage, word: &ScriptWord) -> Result<An
     ensures alone { OnOk result (IsAlone (committed storage.new) (written storage.new)) }
 {
     match word {
-        ScriptWord::Do(statement) => do_statement(alloc, storage, statement),
+        ScriptWord::Do(statement) => do_statement(storage, statement),
         ScriptWord::Begin | ScriptWord::Commit | ScriptWord::Rollback => Ok(Answer::Ok(0)),
     }
 }
 
 /// Runs a line, by what became of it, and says what its client is answered.
-fn run_line(
-    alloc: Global,
-    storage: &mut Storage,
-    line: &TxnLine,
-) -> Result<Option<Reply>, AllocError>
+fn run_line(storage: &mut Storage, line: &TxnLine) -> Result<Option<Reply>, AllocError>
     requires { IsAlone (committed storage.old) (written storage.old) }
     ensures reply { IfOk result (λ reply. option_to_list reply ≡ line_replies (after_events (committed storage.old) (written storage.old 1)) line.now.word line.now.mark) }
     ensures written { OnOk result (written storage.new 1 ≡ written storage.old 1 ++ line_events (after_events (committed storage.old) (written storage.old 1)) line.now.word line.now.mark) }
@@ -114,13 +106,13 @@ fn run_line(
 {
     match line.mark {
         Mark::Answered => {
-            let answer = do_word(alloc, storage, &line.word)?;
+            let answer = do_word(storage, &line.word)?;
             Ok(reply_of(answer))
         }
         Mark::TimedOut => Ok(Some(Reply::Error(ER_LOCK_WAIT_TIMEOUT))),
         Mark::Lost(Side::Before) => Ok(None),
         Mark::Lost(Side::After) => {
-            let _missed = do_word(alloc, storage, &line.word)?;
+            let _missed = do_word(storage, &line.word)?;
             Ok(None)
         }
     }
@@ -138,7 +130,7 @@ fn run_lines(alloc: Global, storage: &mut Storage, lines: &[TxnLine]) -> Result<
 {
     let mut replies = Sequence::new(alloc);
     for line in lines {
-        let reply = run_line(alloc, storage, line)?;
+        let reply = run_line(storage, line)?;
         push_reply(&mut replies, reply)?;
     }
     Ok(replies)

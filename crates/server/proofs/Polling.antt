@@ -8,7 +8,6 @@ use Rattle.server_model.specs.declared.answer.Answer.{Answer}
 use Rattle.server_model.specs.declared.answer.Answer.TheVariants as answers
 use Rattle.server_model.specs.declared.request.Request.{Request}
 use Rattle.server_model.specs.declared.session.Waiting.{Waiting}
-use Rattle.server_model.specs.declared.work.Work.{Work}
 use Rattle.base_script.specs.declared.statement.Statement.{Statement}
 use Rattle.server_model.specs.declared.request.Request.TheVariants as requests
 use Rattle.server_model.specs.Drawing.{filled, filled_for, numbered}
@@ -19,6 +18,7 @@ use Rattle.server_model.specs.Blockers.{blocker, need, need_within, row_locks_of
 use Rattle.server_model.specs.PlainServer.{polled_over}
 use Rattle.server_model.specs.declared.counter.Counter.{Counter}
 use Rattle.server_model.specs.States.{State, holds_tables, is_exclusive, is_in_transaction, is_of_tool, names_in, session_of, view, waiting_of}
+use Rattle.server_execute.specs.declared.found_work.FoundWork.{FoundWork}
 use Rattle.server_transaction.specs.Prepared.{IsWorkFor}
 use Rattle.server_transaction.specs.declared.prepared.Prepared.{Prepared}
 use Rattle.proof_journals.proofs.ServerFacts.Calls.{comes_of, names_of}
@@ -51,7 +51,7 @@ full_blocker tables written all_sessions number request full locks found is have
 full_locks : (tables : Database) (written : ℕ → List RowEvent) (all_sessions : State) (number : ℕ) (full own : Request) (locks : List Lock) → full ≡ own → HaveWritten written all_sessions → locks ≡ row_locks_of (after_events tables (written number)) full → locks ≡ row_locks_of (view number (state_of tables all_sessions)) own
 full_locks tables written all_sessions number full own locks is have are = are ∙ ap (λ (d : Database). row_locks_of d full) (seen_so tables written all_sessions number have) ∙ ap (row_locks_of (view number (state_of tables all_sessions))) is
 
-full_work : (tables : Database) (written : ℕ → List RowEvent) (all_sessions : State) (number : ℕ) (full own : Request) (work : Option Work) → full ≡ own → HaveWritten written all_sessions → IsWorkFor (after_events tables (written number)) full work → IsWorkFor (view number (state_of tables all_sessions)) own work
+full_work : (tables : Database) (written : ℕ → List RowEvent) (all_sessions : State) (number : ℕ) (full own : Request) (work : Option FoundWork) → full ≡ own → HaveWritten written all_sessions → IsWorkFor (after_events tables (written number)) full work → IsWorkFor (view number (state_of tables all_sessions)) own work
 full_work tables written all_sessions number full own work is have its = subst (λ (r : Request). IsWorkFor (view number (state_of tables all_sessions)) r work) is (subst (λ (d : Database). IsWorkFor d full work) (seen_so tables written all_sessions number have) its)
 
 -- a call that nobody blocks

@@ -18,7 +18,6 @@ use Rattle.server_model.specs.declared.request.Request.TheVariants as requests
 use Rattle.server_model.specs.declared.session.Session.{Session}
 use Rattle.server_model.specs.declared.session.Waiting.{Waiting}
 use Rattle.server_model.specs.declared.work.StatementResult.{StatementResult}
-use Rattle.server_model.specs.declared.work.Work.{Work}
 use Rattle.server_model.specs.Answers.{ok, refuses}
 use Rattle.server_model.specs.Conditions.{is_blocked_exclusive, is_freely_polled}
 use Rattle.server_model.specs.Effects.{Effect, Rests, Grows, Writes, Forgets, Moves, Locks, Unlocks, effect, effect_unless, effect_within, is_beyond, is_outside}
@@ -34,6 +33,7 @@ use Rattle.server_model.proofs.LockedRows.Tests.{are_one}
 use Rattle.proof_journals.specs.Holdings.{face_of}
 use Rattle.proof_journals.proofs.Names.{Free, names_granted}
 use Rattle.proof_journals.proofs.Faces.{writes_face, busy_face}
+use Rattle.server_execute.specs.declared.found_work.FoundWork.{FoundWork}
 use Rattle.server_transaction.specs.FittingEvents.{NoneOf}
 use Rattle.server_transaction.specs.Prepared.{IsSoundWork, IsWorkFor, IsWorkOf, work_result}
 use Rattle.server_transaction.specs.declared.prepared.Prepared.{Prepared}
@@ -47,12 +47,12 @@ use Rattle.server.proofs.Steps.{at_work, need_so, seen_so}
 -- STATEMENTS AND COPIES
 
 -- what prepared work gives, as the session sees the tables, and that it makes rows of its table
-gives_so : (tables : Database) (written : ℕ → List RowEvent) (all_sessions : State) (number : ℕ) (operation : Operation) (name : List ℕ) (work : Option Work) (result : StatementResult) → HaveWritten written all_sessions → name ≡ operation.table → IsWorkOf (view number (state_of tables all_sessions)) operation work
+gives_so : (tables : Database) (written : ℕ → List RowEvent) (all_sessions : State) (number : ℕ) (operation : Operation) (name : List ℕ) (work : Option FoundWork) (result : StatementResult) → HaveWritten written all_sessions → name ≡ operation.table → IsWorkOf (view number (state_of tables all_sessions)) operation work
     → result ≡ work_result (after_events tables (written number)) name work → result ≡ operation_result (view number (state_of tables all_sessions)) operation
 gives_so tables written all_sessions number operation name work result have own is gives =
     gives ∙ ap (λ (d : Database). work_result d name work) (seen_so tables written all_sessions number have) ∙ ap (λ (n : List ℕ). work_result (view number (state_of tables all_sessions)) n work) own ∙ work_gives (view number (state_of tables all_sessions)) operation work is
 
-sound_so : (tables : Database) (written : ℕ → List RowEvent) (all_sessions : State) (number : ℕ) (operation : Operation) (name : List ℕ) (work : Option Work) → HaveWritten written all_sessions → name ≡ operation.table → IsWorkOf (view number (state_of tables all_sessions)) operation work
+sound_so : (tables : Database) (written : ℕ → List RowEvent) (all_sessions : State) (number : ℕ) (operation : Operation) (name : List ℕ) (work : Option FoundWork) → HaveWritten written all_sessions → name ≡ operation.table → IsWorkOf (view number (state_of tables all_sessions)) operation work
     → IsSoundWork (after_events tables (written number)) name work
 sound_so tables written all_sessions number operation name work have own is =
     subst (λ (d : Database). IsSoundWork d name work) (sym (seen_so tables written all_sessions number have))

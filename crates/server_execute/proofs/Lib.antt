@@ -1,5 +1,6 @@
 pub mod ChangedRows
 pub mod FittingChanges
+pub mod FoundRows
 pub mod NewKeys
 pub mod Shown
 pub mod UpdatedRows

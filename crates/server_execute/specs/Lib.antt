@@ -1,3 +1,4 @@
+pub mod FoundWork
 pub mod Laws
 pub mod ReadyResult
 pub mod RowUpdates

@@ -1,17 +1,12 @@
 //! What a statement says: its answer, and the changes that it makes.
 
-ghost use Rattle.std.specs.Prelude.{◌≡◌, [], map, IfOk};
-ghost use Rattle.base_values.specs.GhoSchema.Rows.{key_places};
+ghost use Rattle.std.specs.Prelude.{◌≡◌, map, IfOk};
 ghost use Rattle.base_values.specs.declared.event.Change.TheVariants as changes;
-ghost use Rattle.server_model.specs.Operations.{events_of};
 ghost use Rattle.server_model.specs.StatementResults.{only};
 ghost use Rattle.server_execute.specs.ReadyResult.{as_result};
-ghost use Rattle.server_seen.specs.Written.{nothing, wrote_all};
 
-use base_values::gho_schema::Schema;
-use base_values::{Change, Duplicate, Events, Name, RowEvent, Rows, Sequence};
+use base_values::{Change, Rows, Sequence};
 use server_model::Answer;
-use server_seen::WrittenRows;
 use std::alloc::{AllocError, Global};
 
 /// Changes of the rows of one table, in order.
@@ -46,35 +41,4 @@ pub fn deletes(alloc: Global, rows: Rows) -> Result<Changes, AllocError>
         .map(|row| Change::Delete(row))
         .collect(alloc)?;
     Ok(Sequence::from_vec(deletes))
-}
-
-/// What changes write to a table of this schema.
-#[tactic(auto, unfolding(server_seen::specs::Written::wrote_all))]
-pub fn written_by(
-    alloc: Global,
-    schema: &Schema,
-    changes: &[Change],
-) -> Result<WrittenRows, AllocError>
-    ensures schema { IfOk result (λ written. written.schema ≡ schema.now) }
-    ensures written { IfOk result (λ written. written.written ≡ wrote_all (key_places schema.now) changes.now nothing) }
-{
-    let mut written = WrittenRows::new(alloc, schema)?;
-    for change in changes {
-        written.write(alloc, change)?;
-    }
-    Ok(written)
-}
-
-/// Changes of the table of this name, as events.
-pub fn events_of(alloc: Global, table: &Name, changes: Changes) -> Result<Events, AllocError>
-    ensures { IfOk result (λ events. events ≡ events_of table.now changes) }
-{
-    let mut events = Sequence::new(alloc);
-    for change in changes.into_vec() {
-        events.push(RowEvent {
-            table: table.copy()?,
-            change,
-        })?;
-    }
-    Ok(events)
 }

@@ -4,11 +4,13 @@
 
 mod change_lists;
 mod columns;
+mod found_work;
 pub mod laws;
 mod results;
 mod selection;
 pub mod statement_work;
 mod updates;
 
-pub use change_lists::{Changes, ReadyResult, events_of, written_by};
+pub use change_lists::{Changes, ReadyResult};
+pub use found_work::{FoundWork, find};
 pub use results::tells;

@@ -1,6 +1,6 @@
 //! What a statement says.
 
-ghost use Rattle.std.specs.Prelude.{◌≡◌, ◌∷◌, [], IfOk};
+ghost use Rattle.std.specs.Prelude.{◌≡◌, ◌+◌, ◌∷◌, ◌++◌, [], length, map, IfOk};
 ghost use Rattle.std.specs.List.{list_any};
 ghost use Rattle.base_values.specs.GhoSchema.Tables.{clash};
 ghost use Rattle.base_values.specs.declared.event.Change.TheVariants as changes;
@@ -8,13 +8,15 @@ ghost use Rattle.server_model.specs.declared.answer.Answer.TheVariants as answer
 ghost use Rattle.server_model.specs.declared.work.Work.TheVariants as works;
 ghost use Rattle.server_model.specs.StatementResults.{tells};
 ghost use Rattle.server_model.specs.LockedRows.Coverage.{IsWellFormedTable, IsSound};
+ghost use Rattle.server_execute.specs.FoundWork.{met_by};
 ghost use Rattle.server_execute.specs.ReadyResult.{as_result};
 
 use crate::change_lists::{ReadyResult, deletes, only};
+use crate::found_work::FoundWork;
 use crate::selection::selected;
-use crate::updates::updated;
+use crate::updates::{updated, updated_unfit};
 use base_values::mysql_errors::ER_DUP_ENTRY;
-use base_values::{Change, Duplicate, Row, Sequence};
+use base_values::{Change, Duplicate, Row, Rows, Sequence};
 use server_model::{Answer, Reach, Selection, Work};
 use server_prepare::refuses;
 use server_seen::SeenTable;
@@ -63,11 +65,9 @@ fn copy(alloc: Global, seen: &SeenTable<'_>, row: &Row) -> Result<ReadyResult, A
 }
 
 /// What a REPLACE says: the rows that clash with its row are removed, and counted with it.
-#[tactic(auto, unfolding(server_model::specs::StatementResults::tells))]
-fn replace(alloc: Global, seen: &SeenTable<'_>, row: &Row) -> Result<ReadyResult, AllocError>
-    ensures { IfOk result (λ executed. as_result executed ≡ tells seen.now.schema seen.now.rows (works.Replace row.now)) }
+fn replace(alloc: Global, row: &Row, displaced: Rows) -> Result<ReadyResult, AllocError>
+    ensures { IfOk result (λ executed. as_result executed ≡ record { answer = answers.Ok (1 + length displaced); changes = map changes.Delete displaced ++ changes.Write row.now ∷ [] }) }
 {
-    let displaced = seen.displaced(alloc, row)?;
     let count = displaced.as_slice().len() as u64;
     let mut changes = deletes(alloc, displaced)?;
     changes.push(Change::Write(row.copy()?))?;
@@ -78,11 +78,9 @@ fn replace(alloc: Global, seen: &SeenTable<'_>, row: &Row) -> Result<ReadyResult
 }
 
 /// What a DELETE says: the rows that it reaches are removed.
-#[tactic(auto, unfolding(server_model::specs::StatementResults::tells))]
-fn delete(alloc: Global, seen: &SeenTable<'_>, reach: &Reach) -> Result<ReadyResult, AllocError>
-    ensures { IfOk result (λ executed. as_result executed ≡ tells seen.now.schema seen.now.rows (works.Delete reach.now)) }
+fn delete(alloc: Global, met: Rows) -> Result<ReadyResult, AllocError>
+    ensures { IfOk result (λ executed. as_result executed ≡ record { answer = answers.Ok (length met); changes = map changes.Delete met }) }
 {
-    let met = seen.met(alloc, reach)?;
     let count = met.len() as u64;
     Ok(ReadyResult {
         answer: Answer::Ok(count),
@@ -104,21 +102,30 @@ fn select(
     Ok(only(alloc, selected(alloc, selection, met)?))
 }
 
-/// What a statement says of its table. The table has a clustered key, its rows are rows of it, and so are the statement's
-/// new rows.
+/// What a statement says of its table, by the rows of it that the statement meets. The table has a clustered key, its rows are
+/// rows of it, and so are the statement's new rows.
 #[tactic(auto, unfolding(server_model::specs::StatementResults::tells))]
-pub fn tells(alloc: Global, seen: &SeenTable<'_>, work: &Work) -> Result<ReadyResult, AllocError>
+pub fn tells(
+    alloc: Global,
+    seen: &SeenTable<'_>,
+    found: FoundWork,
+) -> Result<ReadyResult, AllocError>
     requires well_formed { IsWellFormedTable seen.now }
-    requires sound { IsSound seen.now.schema.columns work.now }
-    ensures { IfOk result (λ executed. as_result executed ≡ tells seen.now.schema seen.now.rows work.now) }
+    requires sound { IsSound seen.now.schema.columns found.work }
+    requires met { found.met ≡ met_by seen.now.schema seen.now.rows found.work }
+    ensures { IfOk result (λ executed. as_result executed ≡ tells seen.now.schema seen.now.rows found.work) }
 {
-    match work {
+    let FoundWork { work, met } = found;
+    match &work {
         Work::Refuse(refusal) => Ok(only(alloc, refusal.copy()?)),
         Work::Insert(row) => insert(alloc, seen, row),
         Work::Copy(row) => copy(alloc, seen, row),
-        Work::Replace(row) => replace(alloc, seen, row),
-        Work::Delete(reach) => delete(alloc, seen, reach),
-        Work::Update { reach, sets } => updated(alloc, seen, reach, sets),
+        Work::Replace(row) => replace(alloc, row, met),
+        Work::Delete(_) => delete(alloc, met),
+        Work::Update { sets, .. } => match sets {
+            Ok(sets) => updated(alloc, seen, sets.as_slice(), met.as_slice()),
+            Err(at) => Ok(updated_unfit(alloc, *at, met.as_slice())),
+        },
         Work::Select { reach, selection } => select(alloc, seen, reach, selection),
     }
 }

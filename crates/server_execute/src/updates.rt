@@ -1,13 +1,14 @@
 //! What an UPDATE says: its rows change one by one, each seen as the changes before have left the table.
 
-ghost use Rattle.std.specs.Prelude.{◌≡◌, ◌++◌, ◌∷◌, [], not, true, IfOk, OnOk};
+ghost use Rattle.std.specs.Prelude.{◌≡◌, ◌++◌, ◌∷◌, [], not, true, List, Err, IfOk, OnOk};
 ghost use Rattle.std.specs.List.{list_any};
+ghost use Rattle.base_values.specs.declared.value.Value.{Value};
+ghost use Rattle.base_values.specs.declared.gho_schema.schema.Schema.{Schema};
 ghost use Rattle.base_values.specs.GhoSchema.Rows.{key_places};
 ghost use Rattle.base_values.specs.declared.event.Change.TheVariants as changes;
-ghost use Rattle.server_model.specs.declared.work.Work.TheVariants as works;
-ghost use Rattle.server_model.specs.Rows.{rows_met, same_row, stands};
+ghost use Rattle.server_model.specs.Rows.{same_row, stands};
 ghost use Rattle.server_model.specs.StatementResults.{clashes_besides, updates, result_or_refusal, updated};
-ghost use Rattle.server_model.specs.LockedRows.Coverage.{IsWellFormedTable, IsSound, SetsFit};
+ghost use Rattle.server_model.specs.LockedRows.Coverage.{IsWellFormedTable, SetsFit};
 ghost use Rattle.server_execute.specs.ReadyResult.{as_result};
 ghost use Rattle.server_execute.specs.RowUpdates.{row_update, AreMet};
 ghost use Rattle.server_seen.specs.Written.{wrote};
@@ -19,7 +20,7 @@ use base_values::gho_schema::key_of;
 use base_values::mysql_errors::ER_DUP_ENTRY;
 use base_values::row_conversion::UnfitAt;
 use base_values::{Change, Duplicate, Row, Sequence, Value};
-use server_model::{Answer, ColumnSets, Reach};
+use server_model::Answer;
 use server_prepare::{Checked, refuses, refuses_value};
 use server_seen::{SeenTable, WrittenRows};
 use std::alloc::{AllocError, Global};
@@ -190,32 +191,32 @@ fn result_or_refusal(alloc: Global, changes: Checked<Changes>) -> ReadyResult
     }
 }
 
-/// What an UPDATE says: where its values don't store, it is refused at the first row.
+/// What an UPDATE says of the rows that it reaches.
 pub fn updated(
     alloc: Global,
     seen: &SeenTable<'_>,
-    reach: &Reach,
-    sets: &Result<ColumnSets, UnfitAt>,
+    sets: &[Option<Value>],
+    met: &[Row],
 ) -> Result<ReadyResult, AllocError>
     requires well_formed { IsWellFormedTable seen.now }
-    requires sets { IsSound seen.now.schema.columns (works.Update reach.now sets.now) }
-    ensures { IfOk result (λ executed. as_result executed ≡ updated seen.now.schema sets.now (rows_met seen.now.schema reach.now seen.now.rows) seen.now.rows) }
+    requires sets { SetsFit seen.now.schema.columns sets.now }
+    requires met { AreMet (key_places seen.now.schema) met.now seen.now.rows }
+    ensures { IfOk result (λ executed. as_result executed ≡ result_or_refusal (updates seen.now.schema sets.now met.now seen.now.rows)) }
 {
-    let met = seen.met(alloc, reach)?;
-    match sets {
-        Ok(sets) => {
-            let changes = match met.as_slice() {
-                [old] => update_of_one(alloc, seen, sets.as_slice(), old)?,
-                met => updates(alloc, seen, sets.as_slice(), met)?,
-            };
-            Ok(result_or_refusal(alloc, changes))
-        }
-        Err(at) => {
-            if met.is_empty() {
-                Ok(only(alloc, Answer::Ok(0)))
-            } else {
-                Ok(only(alloc, refuses_value(*at)))
-            }
-        }
+    let changes = match met {
+        [old] => update_of_one(alloc, seen, sets, old)?,
+        met => updates(alloc, seen, sets, met)?,
+    };
+    Ok(result_or_refusal(alloc, changes))
+}
+
+/// What an UPDATE says whose values don't store: it is refused at the first row that it reaches.
+pub fn updated_unfit(alloc: Global, at: UnfitAt, met: &[Row]) -> ReadyResult
+    ensures { (schema : Schema) (rows : List (List Value)) → as_result result ≡ updated schema (Err at) met.now rows }
+{
+    if met.is_empty() {
+        only(alloc, Answer::Ok(0))
+    } else {
+        only(alloc, refuses_value(at))
     }
 }

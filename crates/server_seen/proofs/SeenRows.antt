@@ -33,7 +33,6 @@ unfolding seen
 stands-seen places row written rows =
     stands-put_all places row written.rows (untouched places written.keys rows) ∙ ap (λ (b : Bool). stands row written.rows || b) (stands-filter (λ (r : Row). not (is_touched places written.keys r)) row rows)
 
-
 -- a row whose key comes before all others is new among them
 less_not_at : (places : List ℕ) (row other : Row) → compare_keys (key_of places row) (key_of places other) ≡ Less → is_at places (key_of places row) other ≡ false
 less_not_at places row other less = ap is_eq less

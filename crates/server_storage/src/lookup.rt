@@ -4,20 +4,21 @@ ghost use Rattle.std.specs.Prelude.{◌≡◌, false, [], List, IfOk, IfSome};
 ghost use Rattle.base_values.specs.GhoSchema.ClusteredKey.{clustered_place};
 ghost use Rattle.base_values.specs.declared.event.RowEvent.{RowEvent};
 ghost use Rattle.table_store.specs.Databases.{StoredTable, database, find_table};
-ghost use Rattle.server_model.specs.Operations.{after_events};
+ghost use Rattle.server_model.specs.Operations.{after_events, operation_of};
 ghost use Rattle.server_model.specs.Blockers.{span_lock, span_needs};
 ghost use Rattle.server_model.specs.Needs.{lock_on};
 ghost use Rattle.server_transaction.specs.Premises.{HasSchema, IsOf, events_ready};
-ghost use Rattle.server_transaction.specs.Prepared.{IsSoundWork, work_result};
+ghost use Rattle.server_transaction.specs.Prepared.{IsSoundWork, IsWorkOf, work_result};
 ghost use Rattle.server_storage.specs.OpenTxns.Open.{written_of};
 ghost use Rattle.server_storage.specs.KeptTxns.Kept.{IsKept};
 
 use crate::open_txns::{OpenTxn, txn_of};
+use base_script::Statement;
 use base_values::gho_schema::{Schema, clustered_place};
 use base_values::{Duplicate, Name, Sequence, Span};
+use server_execute::FoundWork;
 use server_locks::row_locks::{Lock, LockSet};
-use server_model::Work;
-use server_transaction::{ReadyResult, Txn, execute};
+use server_transaction::{ReadyResult, Txn, execute, find_work};
 use std::alloc::{AllocError, Global};
 use table_store::paged_tables::Tables;
 
@@ -36,6 +37,22 @@ pub fn txn_seen<'a>(txns: &'a [OpenTxn], session: u32, unwritten: &'a Txn) -> &'
     }
 }
 
+/// What the session's statement is to do, with the rows that it meets as the session sees them.
+pub fn find_seen(
+    alloc: Global,
+    tables: &Tables,
+    txns: &[OpenTxn],
+    session: u32,
+    statement: &Statement,
+) -> Result<Option<FoundWork>, AllocError>
+    requires { IsKept tables.now txns.now }
+    ensures { IfOk result (λ work. IsWorkOf (after_events (database tables.now) (written_of session txns.now)) (operation_of statement.now) work) }
+{
+    let unwritten = Txn::new(alloc);
+    let txn = txn_seen(txns, session, &unwritten);
+    find_work(alloc, tables, txn, statement)
+}
+
 /// What the session's work gives, done to the table of this name as the session sees it, and what it writes.
 pub fn execute_seen(
     alloc: Global,
@@ -43,7 +60,7 @@ pub fn execute_seen(
     txns: &[OpenTxn],
     session: u32,
     table: &Name,
-    work: Option<Work>,
+    work: Option<FoundWork>,
 ) -> Result<ReadyResult, AllocError>
     requires kept { IsKept tables.now txns.now }
     requires sound { IsSoundWork (after_events (database tables.now) (written_of session txns.now)) table.now work }

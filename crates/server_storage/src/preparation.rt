@@ -12,7 +12,6 @@ ghost use Rattle.server_storage.specs.KeptTxns.Kept.{IsKept};
 use crate::lookup::{span_locks, txn_seen};
 use crate::open_txns::OpenTxn;
 use base_script::Statement;
-use base_values::Sequence;
 use server_model::Request;
 use server_transaction::row_copies::{RowCopy, prepare_copy};
 use server_transaction::{Prepared, Txn, prepare};
@@ -84,9 +83,6 @@ pub fn prepare_request(
             };
             prepare_row(alloc, tables, txns, session, &copy)
         }
-        _ => Ok(Prepared {
-            work: None,
-            locks: Sequence::new(alloc),
-        }),
+        _ => Ok(Prepared::nothing(alloc)),
     }
 }

@@ -7,23 +7,25 @@ ghost use Rattle.server_model.specs.declared.request.Request.TheVariants.{Create
 ghost use Rattle.server_model.specs.Blockers.{row_locks_of};
 ghost use Rattle.server_model.specs.Conditions.{IsWellFormed};
 ghost use Rattle.server_model.specs.LockedRows.Databases.{IsWellFormedDatabase};
-ghost use Rattle.server_model.specs.Operations.{after_events};
+ghost use Rattle.server_model.specs.Operations.{after_events, operation_of};
 ghost use Rattle.server_model.specs.States.{is_exclusive, pair_names};
 ghost use Rattle.server_transaction.specs.FittingEvents.{EventsFit, NoneOf};
 ghost use Rattle.server_transaction.specs.Premises.{events_ready};
-ghost use Rattle.server_transaction.specs.Prepared.{IsSoundWork, IsWorkFor, work_result};
+ghost use Rattle.server_transaction.specs.Prepared.{IsSoundWork, IsWorkFor, IsWorkOf, work_result};
 ghost use Rattle.server_storage.specs.Ready.{AreReady};
 ghost use Rattle.server_storage.specs.Storage.{committed, written};
 
 use crate::definitions::{create_table, drop_table, rename_tables};
 use crate::ending::{commit_txn, roll_back_txn};
-use crate::lookup::execute_seen;
+use crate::lookup::{execute_seen, find_seen};
 use crate::making_room::make_ready;
 use crate::open_txns::{OpenTxn, events_of, write_in};
 use crate::preparation::prepare_request;
+use base_script::Statement;
 use base_values::gho_schema::Schema;
 use base_values::{Name, RowEvent};
-use server_model::{Request, Work};
+use server_execute::FoundWork;
+use server_model::Request;
 use server_transaction::{Prepared, ReadyResult, Writes};
 use std::alloc::{AllocError, Global};
 use std::marker::Model;
@@ -108,13 +110,30 @@ impl Storage {
         )
     }
 
+    /// What the session's statement is to do, with the rows that it meets: for one that is alone, and asks for no locks.
+    pub fn find_work(
+        &self,
+        session: u32,
+        statement: &Statement,
+    ) -> Result<Option<FoundWork>, AllocError>
+        ensures { IfOk result (λ work. IsWorkOf (after_events (committed self.now) (written self.now session)) (operation_of statement.now) work) }
+    {
+        find_seen(
+            self.alloc,
+            &self.tables,
+            self.txns.as_slice(),
+            session,
+            statement,
+        )
+    }
+
     /// What the session's work gives that was prepared, done to the table of this name. Room is made for what it writes and for
     /// the commit.
     pub fn execute(
         &mut self,
         session: u32,
         table: &Name,
-        work: Option<Work>,
+        work: Option<FoundWork>,
     ) -> Result<ReadyResult, AllocError>
         requires { IsSoundWork (after_events (committed self.old) (written self.old session)) table.now work }
         ensures answer { IfOk result (λ executed. executed.answer ≡ (work_result (after_events (committed self.old) (written self.old session)) table.now work).answer) }

@@ -59,10 +59,10 @@ pub record IsDone (was now : List StoredTable) (event : RowEvent) (rest : List R
   pub room : (name : List ℕ) → puts_in name rest ≤ spare_in name now
   pub spare : (name : List ℕ) → spare_in name was + puts_in name rest ≤ spare_in name now + puts_in name (event ∷ rest)
 
-pub one_done : (was now : List StoredTable) (event : RowEvent) (rest : List RowEvent) (gone : Option Row) (keys : List (Option Row)) → database now ≡ with_change event.table (change_table event.change) (database was) → spare_in event.table was ≤ spare_in event.table now + puts_of event.change
-    → others event.table now ≡ others event.table was → EventsFit (database was) (event ∷ rest) → AllZip (IsGoneIn (database was)) (event ∷ rest) (gone ∷ keys) → ((name : List ℕ) → puts_in name (event ∷ rest) ≤ spare_in name was) → IsDone was now event rest keys
+pub one_done : (was now : List StoredTable) (event : RowEvent) (rest : List RowEvent) (key : Option Row) (keys : List (Option Row)) → database now ≡ with_change event.table (change_table event.change) (database was) → spare_in event.table was ≤ spare_in event.table now + puts_of event.change
+    → others event.table now ≡ others event.table was → EventsFit (database was) (event ∷ rest) → AllZip (IsGoneIn (database was)) (event ∷ rest) (key ∷ keys) → ((name : List ℕ) → puts_in name (event ∷ rest) ≤ spare_in name was) → IsDone was now event rest keys
 unfolding after_events EventsFit
-one_done was now event rest gone keys is less same fit all room =
+one_done was now event rest key keys is less same fit all room =
     let own : List ℕ = event.table in
     let taken = λ (name : List ℕ). one_taken own name was now (puts_of event.change) (bytes_eq own name) refl same less in
     record {

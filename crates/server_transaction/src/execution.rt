@@ -1,15 +1,15 @@
 //! What a session's statement is to do to its table; and what work on a table needs and gives, as the session sees the table.
 
-ghost use Rattle.std.specs.Prelude.{◌≡◌, [], List, None, IfOk, IfSome};
-ghost use Rattle.base_values.specs.declared.event.RowEvent.{RowEvent};
+ghost use Rattle.std.specs.Prelude.{◌≡◌, [], None, Some, IfOk, IfSome};
 ghost use Rattle.table_store.specs.Databases.{database};
 ghost use Rattle.server_model.specs.Answers.{refuses};
+ghost use Rattle.server_model.specs.Needs.{needs};
 ghost use Rattle.server_model.specs.Operations.{table_of, events_of, result_of, operation_of, after_events};
 ghost use Rattle.server_model.specs.StatementResults.{tells};
 ghost use Rattle.server_model.specs.LockedRows.Coverage.{IsWellFormedTable, IsSound};
-ghost use Rattle.server_model.specs.LockedRows.Databases.{IsWellFormedDatabase};
+ghost use Rattle.server_execute.specs.FoundWork.{found_in, met_by};
 ghost use Rattle.server_transaction.specs.Premises.{HasSchema, IsOf, events_ready};
-ghost use Rattle.server_transaction.specs.Prepared.{IsPrepared, IsSoundWork, IsWorkOf, work_needs, work_result};
+ghost use Rattle.server_transaction.specs.Prepared.{IsPrepared, IsSoundWork, IsWorkOf, work_result};
 
 use crate::prepared::{Prepared, ReadyResult};
 use crate::seen_tables::seen_table;
@@ -20,8 +20,7 @@ use base_values::gho_schema::Schema;
 use base_values::mysql_errors::ER_NO_SUCH_TABLE;
 use base_values::{Name, Sequence};
 use server_execute::statement_work::needs;
-use server_execute::{Changes, tells};
-use server_locks::row_locks::LockSet;
+use server_execute::{Changes, FoundWork, find, tells};
 use server_model::Work;
 use server_prepare::{refuses, work_of};
 use server_seen::SeenTable;
@@ -41,55 +40,35 @@ pub fn table_of(statement: &Statement) -> &Name
     }
 }
 
-/// What a statement is to do to its table, whatever was written; nothing where the table doesn't exist.
-pub fn statement_work(
+/// What a statement is to do to its table, with the rows that it meets; nothing where the table doesn't exist.
+pub fn find_work(
     alloc: Global,
     tables: &Tables,
+    txn: &Txn,
     statement: &Statement,
-) -> Result<Option<Work>, AllocError>
-    ensures { IfOk result (λ work. (events : List RowEvent) → IsWellFormedDatabase (after_events (database tables.now) events) → IsWorkOf (after_events (database tables.now) events) (operation_of statement.now) work) }
+) -> Result<Option<FoundWork>, AllocError>
+    requires { IsOf (database tables.now) txn.now }
+    ensures { IfOk result (λ work. IsWorkOf (after_events (database tables.now) txn.now.events) (operation_of statement.now) work) }
 {
-    let Some(table) = tables.find(table_of(statement)) else {
+    let Some(seen) = seen_table(tables, txn, table_of(statement)) else {
         return Ok(None);
     };
-    let work = work_of(alloc, table.schema(), statement)?;
-    Ok(Some(work))
+    let work = work_of(alloc, seen.schema(), statement)?;
+    let found = find(alloc, &seen, work)?;
+    Ok(Some(found))
 }
 
-/// The row locks that work on the table of this name needs.
-fn work_needs(
-    alloc: Global,
-    tables: &Tables,
-    txn: &Txn,
-    name: &Name,
-    work: &Option<Work>,
-) -> Result<LockSet, AllocError>
-    requires { IsOf (database tables.now) txn.now }
-    ensures { IfOk result (λ locks. locks ≡ work_needs (after_events (database tables.now) txn.now.events) name.now work.now) }
+/// Work on a table, with the rows that it meets and the row locks that it needs.
+pub fn with_locks(alloc: Global, seen: &SeenTable<'_>, work: Work) -> Result<Prepared, AllocError>
+    ensures work { IfOk result (λ prepared. prepared.work ≡ Some (found_in seen.now work)) }
+    ensures locks { IfOk result (λ prepared. prepared.locks ≡ needs seen.now.schema seen.now.rows work) }
 {
-    let Some(work) = work else {
-        return Ok(Sequence::new(alloc));
-    };
-    match seen_table(tables, txn, name) {
-        Some(seen) => needs(alloc, &seen, work),
-        None => Ok(Sequence::new(alloc)),
-    }
-}
-
-/// Work on the table of this name, with the row locks that it needs.
-pub fn with_locks(
-    alloc: Global,
-    tables: &Tables,
-    txn: &Txn,
-    name: &Name,
-    work: Option<Work>,
-) -> Result<Prepared, AllocError>
-    requires { IsOf (database tables.now) txn.now }
-    ensures work { IfOk result (λ prepared. prepared.work ≡ work) }
-    ensures locks { IfOk result (λ prepared. prepared.locks ≡ work_needs (after_events (database tables.now) txn.now.events) name.now work) }
-{
-    let locks = work_needs(alloc, tables, txn, name, &work)?;
-    Ok(Prepared { work, locks })
+    let found = find(alloc, seen, work)?;
+    let locks = needs(alloc, seen, &found)?;
+    Ok(Prepared {
+        work: Some(found),
+        locks,
+    })
 }
 
 /// The session's statement is prepared.
@@ -102,8 +81,11 @@ pub fn prepare(
     requires { IsOf (database tables.now) txn.now }
     ensures { IfOk result (λ prepared. IsPrepared (after_events (database tables.now) txn.now.events) (operation_of statement.now) prepared) }
 {
-    let work = statement_work(alloc, tables, statement)?;
-    with_locks(alloc, tables, txn, table_of(statement), work)
+    let Some(seen) = seen_table(tables, txn, table_of(statement)) else {
+        return Ok(Prepared::nothing(alloc));
+    };
+    let work = work_of(alloc, seen.schema(), statement)?;
+    with_locks(alloc, &seen, work)
 }
 
 /// What changes write, made ready; nothing where there are none.
@@ -118,15 +100,16 @@ fn writes_of(alloc: Global, schema: &Schema, changes: Changes) -> Result<Option<
 }
 
 /// What work says of its table, as it is seen, and what it writes, made ready.
-fn tell(alloc: Global, seen: &SeenTable<'_>, work: &Work) -> Result<ReadyResult, AllocError>
+fn tell(alloc: Global, seen: &SeenTable<'_>, found: FoundWork) -> Result<ReadyResult, AllocError>
     requires well_formed { IsWellFormedTable seen.now }
-    requires sound { IsSound seen.now.schema.columns work.now }
-    ensures answer { IfOk result (λ executed. executed.answer ≡ (result_of seen.now.schema.name (tells seen.now.schema seen.now.rows work.now)).answer) }
-    ensures events { IfOk result (λ executed. events_ready executed.writes ≡ (result_of seen.now.schema.name (tells seen.now.schema seen.now.rows work.now)).events) }
+    requires sound { IsSound seen.now.schema.columns found.work }
+    requires met { found.met ≡ met_by seen.now.schema seen.now.rows found.work }
+    ensures answer { IfOk result (λ executed. executed.answer ≡ (result_of seen.now.schema.name (tells seen.now.schema seen.now.rows found.work)).answer) }
+    ensures events { IfOk result (λ executed. events_ready executed.writes ≡ (result_of seen.now.schema.name (tells seen.now.schema seen.now.rows found.work)).events) }
     ensures schema { IfOk result (λ executed. IfSome executed.writes (λ one. one.schema ≡ seen.now.schema)) }
 {
     let schema = seen.schema();
-    let executed = tells(alloc, seen, work)?;
+    let executed = tells(alloc, seen, found)?;
     let writes = writes_of(alloc, schema, executed.changes)?;
     Ok(ReadyResult {
         answer: executed.answer,
@@ -151,7 +134,7 @@ pub fn execute(
     tables: &Tables,
     txn: &Txn,
     name: &Name,
-    work: Option<Work>,
+    work: Option<FoundWork>,
 ) -> Result<ReadyResult, AllocError>
     requires of { IsOf (database tables.now) txn.now }
     requires sound { IsSoundWork (after_events (database tables.now) txn.now.events) name.now work }
@@ -159,11 +142,11 @@ pub fn execute(
     ensures events { IfOk result (λ executed. events_ready executed.writes ≡ (work_result (after_events (database tables.now) txn.now.events) name.now work).events) }
     ensures schema { IfOk result (λ executed. IfSome executed.writes (λ one. HasSchema (database tables.now) one.schema)) }
 {
-    let Some(work) = work else {
+    let Some(found) = work else {
         return Ok(missing());
     };
     match seen_table(tables, txn, name) {
-        Some(seen) => tell(alloc, &seen, &work),
+        Some(seen) => tell(alloc, &seen, found),
         None => Ok(missing()),
     }
 }

@@ -17,7 +17,7 @@ mod txn;
 mod writes;
 
 pub use commits::commit;
-pub use execution::{execute, prepare, statement_work, table_of, with_locks};
+pub use execution::{execute, find_work, prepare, table_of, with_locks};
 pub use prepared::{Prepared, ReadyResult};
 pub use txn::Txn;
 pub use writes::Writes;

@@ -8,7 +8,7 @@ ghost use Rattle.server_model.specs.declared.work.Work.TheVariants as works;
 ghost use Rattle.server_model.specs.Checks.{new_row, or_refused};
 ghost use Rattle.server_model.specs.Operations.{after_events, copy_from, copy_operation, copy_work};
 ghost use Rattle.server_transaction.specs.Premises.{IsOf};
-ghost use Rattle.server_transaction.specs.Prepared.{IsPrepared, IsWorkOf};
+ghost use Rattle.server_transaction.specs.Prepared.{IsPrepared};
 
 use crate::row_copies::RowCopy;
 use crate::seen_tables::seen_table;
@@ -72,23 +72,6 @@ fn work_of_copy(
     }
 }
 
-/// What the copy is to do to the table that it goes into; nothing where that doesn't exist.
-fn copy_work(
-    alloc: Global,
-    tables: &Tables,
-    txn: &Txn,
-    copy: &RowCopy<'_>,
-) -> Result<Option<Work>, AllocError>
-    requires { IsOf (database tables.now) txn.now }
-    ensures { IfOk result (λ work. IsWorkOf (after_events (database tables.now) txn.now.events) (copy_operation (after_events (database tables.now) txn.now.events) copy.now.from.now copy.now.into.now copy.now.map.now copy.now.key.now) work) }
-{
-    let Some(table) = tables.find(copy.into) else {
-        return Ok(None);
-    };
-    let work = work_of_copy(alloc, tables, txn, copy, table.schema())?;
-    Ok(Some(work))
-}
-
 /// The session's copy of a row is prepared.
 pub fn prepare_copy(
     alloc: Global,
@@ -99,6 +82,9 @@ pub fn prepare_copy(
     requires { IsOf (database tables.now) txn.now }
     ensures { IfOk result (λ prepared. IsPrepared (after_events (database tables.now) txn.now.events) (copy_operation (after_events (database tables.now) txn.now.events) copy.now.from.now copy.now.into.now copy.now.map.now copy.now.key.now) prepared) }
 {
-    let work = copy_work(alloc, tables, txn, copy)?;
-    with_locks(alloc, tables, txn, copy.into, work)
+    let Some(into) = seen_table(tables, txn, copy.into) else {
+        return Ok(Prepared::nothing(alloc));
+    };
+    let work = work_of_copy(alloc, tables, txn, copy, into.schema())?;
+    with_locks(alloc, &into, work)
 }

@@ -17,8 +17,8 @@ returns-then-place-len-clause-room c =
     let within : c.place_of-place.result < length c.args.tables.now.items = omega (arith, many, c.len.ensures, c.if-place-len.true) in
     room_there c.reserve.result c.args.schema.now c.args.tables.now.items c.args.fresh.now c.args.n _ c.place_of-place.result c.index_mut-table.result.now c.reserve.new.self place_is within c.index_mut-table.ensures.value c.reserve.ensures.schema c.reserve.ensures.ok
 
-pub returns-clause-room : goal.returns-clause-room
-returns-clause-room c =
+pub returns-in_ok-rows-clause-room : goal.returns-in_ok-rows-clause-room
+returns-in_ok-rows-clause-room c =
     let place_is : c.place_of-place.result ≡ position_or_len (named c.args.schema.now.name) c.args.tables.now.items =
     c.place_of-place.ensures ∙ ap (λ (ts : List StoredWrites). position_or_len (named c.args.schema.now.name) ts) c.as_slice.ensures.value in
     let many : length c.args.tables.now.items ≡ vec_len c.args.tables.now = ap length (sym c.as_slice.ensures.value) ∙ c.as_slice.ensures.len in

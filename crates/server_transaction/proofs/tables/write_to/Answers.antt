@@ -33,8 +33,8 @@ returns-then-place-len-clause-tables c =
     roomy (length c.args.ready.items + length c.args.ready.items) c.args.schema.now c.args.tables.now.items c.args.fresh.now (vec_capacity c.args.tables.now - vec_len c.args.tables.now) c.place_of-place.result c.index_mut-table.result.now place_is within c.index_mut-table.ensures.value c.requires.schema c.requires.room in
     wrote_there c.args.schema.now c.args.ready.items c.args.tables.now.items c.place_of-place.result c.index_mut-table.result.now c.write_each.new.written place_is within c.index_mut-table.ensures.value roomy_is.same c.write_each.ensures.schema c.write_each.ensures.written
 
-pub write_each-requires-2 : goal.write_each-requires-2
-write_each-requires-2 c =
+pub write_each-requires-in-Some : goal.write_each-requires-in-Some
+write_each-requires-in-Some c =
     let place_is : c.place_of-place.result ≡ position_or_len (named c.args.schema.now.name) c.args.tables.now.items =
     c.place_of-place.ensures ∙ ap (λ (ts : List StoredWrites). position_or_len (named c.args.schema.now.name) ts) c.as_slice.ensures.value in
     let many : length c.args.tables.now.items ≡ vec_len c.args.tables.now = ap length (sym c.as_slice.ensures.value) ∙ c.as_slice.ensures.len in
@@ -79,4 +79,4 @@ returns-in-Some-clause-tables c =
     fresh_after (length c.args.ready.items + length c.args.ready.items) c.args.schema.now c.args.tables.now.items c.args.fresh.now (vec_capacity c.args.tables.now - vec_len c.args.tables.now) c.place_of-place.result place_is following c.requires.room in
     let fresh : IsFresh (length c.args.ready.items + length c.args.ready.items) c.args.schema.now c.in-Some.table = subst (HasFresh (length c.args.ready.items + length c.args.ready.items) c.args.schema.now) (sym c.take-taken.ensures.value ∙ c.in-Some.is) has.1 in
     rw c.push_reserved.ensures.items
-    (wrote_after (length c.args.ready.items + length c.args.ready.items) c.args.schema.now c.args.ready.items c.args.tables.now.items c.place_of-place.result c.in-Some.table c.write_each-2.new.written place_is following fresh c.write_each-2.ensures.schema c.write_each-2.ensures.written)
+    (wrote_after (length c.args.ready.items + length c.args.ready.items) c.args.schema.now c.args.ready.items c.args.tables.now.items c.place_of-place.result c.in-Some.table c.write_each-in-Some.new.written place_is following fresh c.write_each-in-Some.ensures.schema c.write_each-in-Some.ensures.written)
