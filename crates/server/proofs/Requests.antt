@@ -36,12 +36,14 @@ use Rattle.proof_journals.proofs.Faces.{writes_face, busy_face}
 use Rattle.server_execute.specs.declared.found_work.FoundWork.{FoundWork}
 use Rattle.server_transaction.specs.FittingEvents.{NoneOf}
 use Rattle.server_transaction.specs.Prepared.{IsSoundWork, IsWorkFor, IsWorkOf, work_result}
+use Rattle.server_transaction.specs.Premises.{events_ready}
 use Rattle.server_transaction.specs.declared.prepared.Prepared.{Prepared}
+use Rattle.server_transaction.specs.declared.prepared.ReadyResult.{ReadyResult}
 use Rattle.server_transaction.proofs.PreparedWork.{work_gives, work_sound}
 use Rattle.proof_journals.specs.ServerFacts.Grants.{GrowsWell}
 use Rattle.proof_journals.proofs.ServerFacts.Effects.{AtWork, within_fits}
 use Rattle.proof_journals.proofs.ServerFacts.Waits.{nothing_blocks}
-use Rattle.server.specs.Parts.{needed, state_of, GoTogether, HaveWritten, MayDo}
+use Rattle.server.specs.Parts.{needed, result_of, state_of, GoTogether, HaveWritten, MayDo}
 use Rattle.server.proofs.Steps.{at_work, need_so, seen_so}
 
 -- STATEMENTS AND COPIES
@@ -57,6 +59,10 @@ sound_so : (tables : Database) (written : ℕ → List RowEvent) (all_sessions :
 sound_so tables written all_sessions number operation name work have own is =
     subst (λ (d : Database). IsSoundWork d name work) (sym (seen_so tables written all_sessions number have))
     (subst (λ (n : List ℕ). IsSoundWork (view number (state_of tables all_sessions)) n work) (sym own) (work_sound (view number (state_of tables all_sessions)) operation work is))
+
+-- the answer and the events are what a statement gives
+pub both_given : (executed : ReadyResult) (result : StatementResult) → executed.answer ≡ result.answer → events_ready executed.writes ≡ result.events → result_of executed ≡ result
+both_given executed result answer events = rw (answer, events) refl
 
 statement_work : (state : State) (number : ℕ) (statement : Statement) (request : Request) (prepared : Prepared) → MayDo state number request prepared → request ≡ requests.Do statement → IsWorkOf (view number state) (operation_of statement) prepared.work
 statement_work state number statement request prepared may is = subst (λ (r : Request). IsWorkFor (view number state) r prepared.work) is may.work_is

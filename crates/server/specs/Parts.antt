@@ -10,12 +10,15 @@ use Rattle.server_model.specs.declared.entry.Asked.{Asked}
 use Rattle.server_model.specs.declared.need.Need.{Need}
 use Rattle.server_model.specs.declared.request.Request.{Request}
 use Rattle.server_model.specs.declared.request.Request.TheVariants as requests
+use Rattle.server_model.specs.declared.work.StatementResult.{StatementResult}
 use Rattle.server_model.specs.Conditions.{ComesWell, IsNewSchema, IsWellFormed}
 use Rattle.server_model.specs.Blockers.{blocker, need_within, row_locks_of}
 use Rattle.server_model.specs.PlainServer.{state_left}
 use Rattle.server_model.specs.States.{State, holds_tables, is_exclusive, is_in_transaction, is_live, names_in, session_of, view, writes_of}
 use Rattle.server_transaction.specs.Prepared.{IsWorkFor}
+use Rattle.server_transaction.specs.Premises.{events_ready}
 use Rattle.server_transaction.specs.declared.prepared.Prepared.{Prepared}
+use Rattle.server_transaction.specs.declared.prepared.ReadyResult.{ReadyResult}
 use Rattle.proof_journals.specs.ServerFacts.Invariants.{IsServing}
 
 -- *The server's state*: what its sessions keep, with the committed tables
@@ -49,6 +52,10 @@ pub record MayDo (state : State) (session : ℕ) (request : Request) (prepared :
   pub work_is : IsWorkFor (view session state) request prepared.work
   pub locks_are : prepared.locks ≡ row_locks_of (view session state) request
   pub free : blocker state session (need_within (view session state) request) ≡ None
+
+-- what a statement gives, with the events of what it writes
+abbrev pub result_of : ReadyResult → StatementResult
+result_of executed = record { answer = executed.answer; events = events_ready executed.writes }
 
 -- requests that change nothing, and ask for no lock of a row
 abbrev pub is_look : Request → Bool

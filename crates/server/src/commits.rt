@@ -14,8 +14,8 @@ pub fn commit(storage: &mut Storage, all_sessions: &mut Sessions, session: u32)
     ensures state { state_of (committed storage.new) all_sessions.new ≡ commits session [] (state_of (committed storage.old) all_sessions.old) }
     ensures have { HaveWritten (written storage.new) all_sessions.new }
 {
+    all_sessions.commit(session, storage.events_written(session));
     storage.commit(session);
-    all_sessions.commit(session);
 }
 
 /// What the session wrote is forgotten, and its transaction is over (ROLLBACK).

@@ -81,13 +81,8 @@ pub fn begin(
     ensures err { OnErr result (all_sessions.new ≡ all_sessions.old) }
     ensures have { HaveWritten (written storage.now) all_sessions.new }
 {
-    let alloc = all_sessions.allocator();
-    all_sessions.go_on(
-        session,
-        &Request::Begin,
-        Sequence::new(alloc),
-        Sequence::new(alloc),
-    )?;
+    let none = Sequence::new(all_sessions.allocator());
+    all_sessions.go_on(session, &Request::Begin, none, &[])?;
     Ok(Answer::Ok(0))
 }
 
@@ -112,7 +107,7 @@ pub fn begin_span(
     let alloc = all_sessions.allocator();
     match keys_of_span(alloc, storage.tables(), table, span, size)? {
         Some(answer) => {
-            all_sessions.go_on(session, request, locks, Sequence::new(alloc))?;
+            all_sessions.go_on(session, request, locks, &[])?;
             Ok(answer)
         }
         None => Ok(refuses(ER_NO_SUCH_TABLE)),

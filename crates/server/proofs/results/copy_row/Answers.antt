@@ -1,6 +1,9 @@
+use Rattle.std.proofs.Common.{ap}
+use Rattle.server_model.specs.declared.work.StatementResult.{StatementResult}
 use Rattle.server_storage.specs.Storage.{committed, written}
+use Rattle.server.specs.Parts.{result_of}
 use Rattle.server.proofs.Steps.{same_together}
-use Rattle.server.proofs.Requests.{copy_gives, copy_grows, copy_sound}
+use Rattle.server.proofs.Requests.{both_given, copy_gives, copy_grows, copy_sound}
 use Rattle.server.proofs.results.copy_row.Goals as goal
 
 pub execute-requires : goal.execute-requires
@@ -12,17 +15,17 @@ keep-requires-clause-together c =
 
 pub keep-requires-clause-grows : goal.keep-requires-clause-grows
 keep-requires-clause-grows c =
-    let given = copy_gives (committed c.args.storage.now) (written c.args.storage.now) c.args.all_sessions.now c.args.session c.args.copy.now.from.now c.args.copy.now.into.now c.args.copy.now.map.now c.args.copy.now.key.now c.args.request.now c.args.prepared c.in_ok-executed.executed.result c.requires.together.have c.requires.may c.requires.request c.in_ok-executed.ensures.result in
-    rw c.execute.ensures.committed (copy_grows (committed c.args.storage.now) (written c.args.storage.now) c.args.all_sessions.now c.args.session c.args.copy.now.from.now c.args.copy.now.into.now c.args.copy.now.map.now c.args.copy.now.key.now c.args.request.now c.args.prepared c.in_ok-executed.executed.result c.requires.together c.requires.may c.requires.request given)
+    let given = copy_gives (committed c.args.storage.now) (written c.args.storage.now) c.args.all_sessions.now c.args.session c.args.copy.now.from.now c.args.copy.now.into.now c.args.copy.now.map.now c.args.copy.now.key.now c.args.request.now c.args.prepared (result_of c.in_ok-executed.executed) c.requires.together.have c.requires.may c.requires.request (both_given c.in_ok-executed.executed _ c.in_ok-executed.ensures.answer c.in_ok-executed.ensures.events) in
+    rw c.execute.ensures.committed (copy_grows (committed c.args.storage.now) (written c.args.storage.now) c.args.all_sessions.now c.args.session c.args.copy.now.from.now c.args.copy.now.into.now c.args.copy.now.map.now c.args.copy.now.key.now c.args.request.now c.args.prepared (result_of c.in_ok-executed.executed) c.requires.together c.requires.may c.requires.request given)
 
 pub returns-clause-answer : goal.returns-clause-answer
 returns-clause-answer c =
-    let given = copy_gives (committed c.args.storage.now) (written c.args.storage.now) c.args.all_sessions.now c.args.session c.args.copy.now.from.now c.args.copy.now.into.now c.args.copy.now.map.now c.args.copy.now.key.now c.args.request.now c.args.prepared c.in_ok-executed.executed.result c.requires.together.have c.requires.may c.requires.request c.in_ok-executed.ensures.result in
-    rw given at c.keep.ensures.answer
+    let given = copy_gives (committed c.args.storage.now) (written c.args.storage.now) c.args.all_sessions.now c.args.session c.args.copy.now.from.now c.args.copy.now.into.now c.args.copy.now.map.now c.args.copy.now.key.now c.args.request.now c.args.prepared (result_of c.in_ok-executed.executed) c.requires.together.have c.requires.may c.requires.request (both_given c.in_ok-executed.executed _ c.in_ok-executed.ensures.answer c.in_ok-executed.ensures.events) in
+    rw (ap (λ (r : StatementResult). r.answer) given) at c.keep.ensures.answer
 
 pub returns-clause-ok : goal.returns-clause-ok
 returns-clause-ok c =
-    let given = copy_gives (committed c.args.storage.now) (written c.args.storage.now) c.args.all_sessions.now c.args.session c.args.copy.now.from.now c.args.copy.now.into.now c.args.copy.now.map.now c.args.copy.now.key.now c.args.request.now c.args.prepared c.in_ok-executed.executed.result c.requires.together.have c.requires.may c.requires.request c.in_ok-executed.ensures.result in
+    let given = copy_gives (committed c.args.storage.now) (written c.args.storage.now) c.args.all_sessions.now c.args.session c.args.copy.now.from.now c.args.copy.now.into.now c.args.copy.now.map.now c.args.copy.now.key.now c.args.request.now c.args.prepared (result_of c.in_ok-executed.executed) c.requires.together.have c.requires.may c.requires.request (both_given c.in_ok-executed.executed _ c.in_ok-executed.ensures.answer c.in_ok-executed.ensures.events) in
     rw (given, c.execute.ensures.committed) at c.keep.ensures.ok
 
 pub returns-clause-err : goal.returns-clause-err
