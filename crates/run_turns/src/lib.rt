@@ -7,6 +7,7 @@ mod actors;
 mod due;
 pub mod due_turns;
 mod feed_run;
+mod renames;
 mod replica;
 mod run;
 pub mod run_turns;

@@ -20,13 +20,13 @@ ghost use Rattle.run_turns.specs.RunTurns.Invariants.{IsRun};
 ghost use Rattle.run_turns.specs.Runs.{is_over, TakesTurn, IsUnmoved, Steps};
 
 use crate::due::{next_turn, turn_of};
-use crate::due_turns::migration_run::Turn;
+use crate::renames::renames_of;
 use crate::run_turns::take;
 use base_script::Actor;
 use plan_data::Plan;
 use run_state::RunState;
 use server_api::Serve;
-use server_model::{Entry, Journal};
+use server_model::{Entry, Journal, Request};
 use std::alloc::{AllocError, Global};
 use std::marker::Model;
 use tool_state::{LogRead, VerdictView};
@@ -49,11 +49,14 @@ pub enum Stepped {
 pub struct Run<'a, V: Serve> {
     alloc: Global,
     run_state: RunState<'a>,
+    // For turns in which the RENAME is lost before it is done.
+    renames: Vec<Request>,
     server: V,
     sessions: u32,
 }
 
 impl<'a, V: Serve> Model for Run<'a, V> {
+    ghost use Rattle.run_turns.specs.InHand.{HasRenames};
     ghost use Rattle.run_turns.specs.RunTurns.Invariants.{IsRun};
     ghost use Rattle.run_turns.specs.Runs.{RunView};
 
@@ -61,7 +64,7 @@ impl<'a, V: Serve> Model for Run<'a, V> {
 
     ghost view = { λ r. record { plan = r.run_state.plan.now; journal = r.run_state.journal.items; server = V.state r.server } };
 
-    ghost invariant = { λ r. IsRun r.run_state.plan.now r.run_state.journal.items r.run_state r.sessions (V.state r.server) };
+    ghost invariant = { λ r. IsRun r.run_state.plan.now r.run_state.journal.items r.run_state r.sessions (V.state r.server) × HasRenames r.run_state.plan.now r.run_state.journal.items r.renames.items };
 }
 
 /// A run taken apart.
@@ -89,9 +92,12 @@ impl<'a, V: Serve> Run<'a, V> {
         requires server { V.state server ≡ opening plan.now }
         ensures { IfOk result (λ run. run ≡ record { plan = plan.now; journal = []; server = opening plan.now }) }
     {
+        let run_state = RunState::open(alloc, plan)?;
+        let renames = renames_of(alloc, plan)?;
         Ok(Run {
             alloc,
-            run_state: RunState::open(alloc, plan)?,
+            run_state,
+            renames,
             server,
             sessions: 0,
         })
@@ -170,31 +176,12 @@ impl<'a, V: Serve> Run<'a, V> {
             || self.run_state.plan.options().turn_limit as usize <= self.run_state.journal.len()
     }
 
-    /// Takes the turn that is due.
-    #[tactic(auto, using(crate::proofs::Steps::has_room, crate::proofs::RunTurns::Costs::turn_costs))]
-    fn take_due(&mut self, actor: Actor, turn: Turn) -> Result<(), AllocError>
-        requires going { is_over self.old.plan self.old.journal ≡ false }
-        requires few { length self.old.journal + 1 < 2 ^ 32 }
-        requires due { Some turn ≡ due self.old.plan self.old.journal actor }
-        ensures ok { OnOk result (TakesTurn self.old actor self.new) }
-        ensures err { OnErr result (IsUnmoved self.old self.new) }
-        ensures costs { OnErr result (MayCost self.old.plan self.old.journal self.old.server actor) }
-    {
-        take(
-            self.alloc,
-            &mut self.server,
-            &mut self.sessions,
-            &mut self.run_state,
-            turn,
-        )
-    }
-
     /// Takes the turn that is due where the actor is to take one: a loss between calls, whosever session it takes, or else
     /// the actor's turn with what is given to it. `NoMemory` leaves the run as it was, but for a session that the server may
     /// have made for the turn and that is lost again; it comes too where the turn is to open a session and the server gave its
-    /// last number. It never comes of a free turn: a loss between calls, or before a call other than a RENAME, COMMIT, ROLLBACK,
-    /// UNLOCK TABLES, and a poll for names of tables that stays blocked.
-    #[tactic(auto, using(crate::proofs::Steps::after_moment, crate::proofs::Steps::none_due))]
+    /// last number. It never comes of a free turn: a loss before a call or between calls, COMMIT, ROLLBACK, UNLOCK TABLES, and a
+    /// poll for names of tables that stays blocked.
+    #[tactic(auto, using(crate::proofs::Steps::after_moment, crate::proofs::Steps::none_due, crate::proofs::Steps::has_room, crate::proofs::RunTurns::Costs::turn_costs, crate::proofs::InHand::left_after, crate::proofs::InHand::left_still))]
     pub fn step(&mut self, actor: Actor) -> Stepped
         ensures { Steps self.old actor result self.new }
     {
@@ -204,13 +191,26 @@ impl<'a, V: Serve> Run<'a, V> {
         let Some(next) = next_turn(&self.run_state, &self.server, actor) else {
             return Stepped::Idle;
         };
-        let Ok(turn) = turn_of(self.alloc, &self.run_state, actor, next) else {
+        let Ok(turn) = turn_of(
+            self.alloc,
+            &self.run_state,
+            &self.server,
+            &mut self.renames,
+            actor,
+            next,
+        ) else {
             return Stepped::NoMemory;
         };
-        match self.take_due(actor, turn) {
-            Ok(()) => Stepped::Took,
-            Err(_) => Stepped::NoMemory,
-        }
+        let Ok(()) = take(
+            self.alloc,
+            &mut self.server,
+            &mut self.sessions,
+            &mut self.run_state,
+            turn,
+        ) else {
+            return Stepped::NoMemory;
+        };
+        Stepped::Took
     }
 
     /// How the migration ended, and why, seen in the run; unfinished until the run has ended.

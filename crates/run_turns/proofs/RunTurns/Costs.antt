@@ -1,16 +1,14 @@
 -- Which turns that are due may take memory.
 use Rattle.std.proofs.Common.{◌≡◌, ℕ, Bool, true, false, List, Option, Some, None, refl, sym, ap, ◌∙◌, subst}
 use Rattle.std.specs.Prelude.{if◌then◌else◌, ◌&&◌, ◌||◌, is_some, Result, Ok, Err, OnErr}
-use Rattle.std.proofs.lemmas.Bool.{true≢false, false≢true}
+use Rattle.std.proofs.lemmas.Bool.{true≢false, false≢true, or_right}
 use Rattle.base_script.specs.declared.actor.Actor.{Actor}
 use Rattle.base_script.specs.declared.actor.Actor.TheVariants.{Op, Insp, Copy, Apply, Lock, Ren, Client}
 use Rattle.base_script.specs.declared.actor.Side.{Side}
 use Rattle.base_script.specs.declared.actor.Side.TheVariants.{Before, After}
-use Rattle.base_script.specs.declared.statement.Statement.TheVariants as statements
 use Rattle.server_model.specs.Blockers.{need, blocker}
 use Rattle.server_model.specs.Conditions.{is_free, is_blocked_exclusive}
 use Rattle.server_model.specs.Entries.{is_command}
-use Rattle.server_model.specs.LostCalls.{lost_in}
 use Rattle.server_model.specs.States.{State, waiting_of, is_exclusive}
 use Rattle.server_model.specs.declared.entry.Asked.{Asked}
 use Rattle.server_model.specs.declared.entry.Asked.TheVariants.{Call, Poll, Command, Cut}
@@ -18,7 +16,6 @@ use Rattle.server_model.specs.declared.entry.Entry.{Entry}
 use Rattle.server_model.specs.declared.request.Request.{Request}
 use Rattle.server_model.specs.declared.request.Request.TheVariants as requests
 use Rattle.server_model.specs.declared.session.Waiting.{Waiting}
-use Rattle.table_store.specs.declared.renames.Pair.{Pair}
 use Rattle.plan_data.specs.PlanData.{PlanData}
 use Rattle.tool_program.specs.FreeCalls.{is_freely_asked}
 use Rattle.tool_program.specs.JournalWords.Journals.{state_at}
@@ -39,7 +36,7 @@ use Rattle.proof_journals.proofs.Machine.Journals.{Asking, calls_so, polls_so, a
 use Rattle.proof_journals.proofs.Machine.Tabling.{tables_exist}
 use Rattle.run_state.specs.declared.run_state.RunState.{RunState}
 use Rattle.run_turns.specs.declared.due_turns.migration_run.turn.Turn.{Turn}
-use Rattle.run_turns.specs.DueTurns.MigrationRun.FreeTurns.{is_free_in, is_free_turn, is_freely_lost, is_freely_made, is_freely_passed}
+use Rattle.run_turns.specs.DueTurns.MigrationRun.FreeTurns.{is_free_in, is_free_turn, is_freely_passed, is_numbered}
 use Rattle.run_turns.specs.DueTurns.MigrationRun.ServerTurns.{is_before}
 use Rattle.run_turns.specs.DueTurns.Due.{own_turn, due, MayCost}
 use Rattle.run_turns.specs.DueTurns.DueCalls.Ranges.{is_reaching, is_inspector, is_heard, reads_range}
@@ -66,44 +63,38 @@ call_costs : (server : State) (session : Option ℕ) (turn : Turn) (request : Re
 call_costs server None turn request is heard costs = ap (λ (asked : Asked). is_command asked || is_freely_passed server turn) is ∙ not_passed server turn (ap is_before heard)
 call_costs server (Some session) turn request is heard costs = ap (is_free_in server session turn.side) is ∙ ap (λ (side : Option Side). is_free_in server session side (Call request)) heard ∙ costs
 
--- a RENAME alone costs where it is lost before it is done
-record Renames (asked : Asked) : Type 0 where
-  pairs : List Pair
-  is : asked ≡ Call (requests.Rename pairs)
-
-renames : (asked : Asked) → is_freely_lost asked ≡ false → Renames asked
-renames (Call (requests.Rename pairs)) costs = record { pairs = pairs; is = refl }
-renames asked costs = absurd (true≢false costs)
-
--- what isn't asked without memory makes a turn that costs
-made_costs : (server : State) (session : Option ℕ) (actor : Actor) (side : Option Side) (asked : Asked) → is_freely_made side asked ≡ false → is_free_turn server session (record { actor = actor; side = side; asked = asked }) ≡ false
-made_costs server session actor None asked costs =
+-- what isn't lost before it is done
+made_costs : (server : State) (session : Option ℕ) (actor : Actor) (side : Option Side) (asked : Asked) → is_before side ≡ false → is_freely_asked (Some asked) ≡ false → is_free_turn server session (record { actor = actor; side = side; asked = asked }) ≡ false
+made_costs server session actor None asked done costs =
     let call : CostlyCall (Some asked) = costly_call (Some asked) costs in
     let same : asked ≡ Call call.request = cc in
     call_costs server session (record { actor = actor; side = None; asked = asked }) call.request same refl call.costs
-made_costs server None actor (Some After) asked costs =
+made_costs server None actor (Some After) asked done costs =
     let call : CostlyCall (Some asked) = costly_call (Some asked) costs in
     let same : asked ≡ Call call.request = cc in
     ap (λ (a : Asked). is_command a || false) same
-made_costs server (Some session) actor (Some After) asked costs = refl
-made_costs server None actor (Some Before) asked costs =
-    let one : Renames asked = renames asked costs in
-    ap (λ (a : Asked). is_command a || is_freely_passed server (record { actor = actor; side = Some Before; asked = a })) one.is
-made_costs server (Some session) actor (Some Before) asked costs = costs
-
--- what the journal keeps whole takes memory only where it isn't free
-pub kept_whole : (asked : Asked) → is_freely_asked (Some asked) ≡ false → lost_in asked ≡ None → is_freely_lost asked ≡ false
-kept_whole (Call requests.Commit) costs whole = absurd (true≢false costs)
-kept_whole (Call requests.Rollback) costs whole = absurd (true≢false costs)
-kept_whole (Call requests.Unlock) costs whole = absurd (true≢false costs)
-kept_whole (Call (requests.Rename pairs)) costs whole = refl
-kept_whole (Call (requests.Do (statements.Replace table columns row drawn))) costs whole = absurd (cc)
-kept_whole (Call request) costs whole = absurd (cc)
-kept_whole asked costs whole = absurd (true≢false costs)
+made_costs server (Some session) actor (Some After) asked done costs = refl
+made_costs server session actor (Some Before) asked lost costs = absurd (true≢false lost)
 
 -- what is given makes a turn that is due
-pub asked_costs : (plan : PlanData) (journal : List Entry) (server : State) (actor : Actor) (asked : Asked) → Some (own_turn plan journal actor asked) ≡ due plan journal actor → is_freely_made (side_due plan journal actor) asked ≡ false → MayCost plan journal server actor
-asked_costs plan journal server actor asked is costs = record { turn = own_turn plan journal actor asked; is_due = sym is; costs = made_costs server (live_session journal actor) actor (side_due plan journal actor) asked costs }
+pub due_costs : (plan : PlanData) (journal : List Entry) (server : State) (actor : Actor) (asked : Asked) → Some (own_turn plan journal actor asked) ≡ due plan journal actor → is_free_turn server (live_session journal actor) (own_turn plan journal actor asked) ≡ false → MayCost plan journal server actor
+due_costs plan journal server actor asked is costs = record { turn = own_turn plan journal actor asked; is_due = sym is; costs = costs }
+
+pub asked_costs : (plan : PlanData) (journal : List Entry) (server : State) (actor : Actor) (side : Option Side) (asked : Asked) → Some (own_turn plan journal actor asked) ≡ due plan journal actor → side ≡ side_due plan journal actor → is_before side ≡ false → is_freely_asked (Some asked) ≡ false → MayCost plan journal server actor
+asked_costs plan journal server actor side asked is struck done costs = due_costs plan journal server actor asked is (made_costs server (live_session journal actor) actor (side_due plan journal actor) asked (sym (ap is_before struck) ∙ done) costs)
+
+-- what is lost before it is done is free where there is a session for it
+pub freely_lost : (server : State) (session : Option ℕ) (turn : Turn) → turn.side ≡ Some Before → is_numbered server session ≡ true → is_free_turn server session turn ≡ true
+freely_lost server None turn lost left = or_right (is_command turn.asked) (is_freely_passed server turn) (ap (λ (side : Option Side). is_before side && is_numbered server None) lost ∙ left)
+freely_lost server (Some session) turn lost left = ap (λ (side : Option Side). is_free_in server session side turn.asked) lost
+
+-- and no call is where there is none
+pub lost_costs : (server : State) (session : Option ℕ) (turn : Turn) → turn.side ≡ Some Before → is_freely_asked (Some turn.asked) ≡ false → is_numbered server session ≡ false → is_free_turn server session turn ≡ false
+lost_costs server None turn lost costs none =
+    let call : CostlyCall (Some turn.asked) = costly_call (Some turn.asked) costs in
+    let same : turn.asked ≡ Call call.request = cc in
+    ap (λ (asked : Asked). is_command asked || is_freely_passed server turn) same ∙ ap (λ (side : Option Side). is_before side && is_numbered server None) lost ∙ none
+lost_costs server (Some session) turn lost costs none = absurd (true≢false none)
 
 -- a turn that is due costs where it isn't free
 pub turn_costs : {A E : Type 0} (plan : PlanData) (journal : List Entry) (server : State) (actor : Actor) (turn : Turn) (r : Result A E) → Some turn ≡ due plan journal actor → OnErr r (is_free_turn server (live_session journal turn.actor) turn ≡ false) → OnErr r (MayCost plan journal server actor)

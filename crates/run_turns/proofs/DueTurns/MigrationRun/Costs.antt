@@ -10,7 +10,7 @@ use Rattle.server_model.specs.Entries.{is_command}
 use Rattle.server_model.specs.LostCalls.{lost_of}
 use Rattle.server_model.specs.States.{State}
 use Rattle.run_turns.specs.declared.due_turns.migration_run.turn.Turn.{Turn}
-use Rattle.run_turns.specs.DueTurns.MigrationRun.FreeTurns.{is_free_in, is_free_turn, is_freely_lost, is_freely_passed}
+use Rattle.run_turns.specs.DueTurns.MigrationRun.FreeTurns.{is_free_in, is_free_turn, is_freely_passed, is_numbered}
 use Rattle.run_turns.specs.DueTurns.MigrationRun.ServerTurns.{is_before}
 
 -- what always succeeds where it is free wants memory only where it isn't
@@ -28,14 +28,13 @@ lost_costs request lost is = refl
 
 -- a session that isn't lost before it asks anything is made, and so is none where no number is left
 pub not_passed : (server : State) (turn : Turn) → is_before turn.side ≡ false → is_freely_passed server turn ≡ false
-not_passed server turn asks = ap (λ (b : Bool). b && is_freely_lost turn.asked && nat_lt server.made 4294967295) asks
+not_passed server turn asks = ap (λ (b : Bool). b && is_numbered server None) asks
 
 pub none_left : (server : State) (turn : Turn) → server.made ≡ 4294967295 → is_freely_passed server turn ≡ false
-none_left server turn last = by (is_before turn.side) (is_freely_lost turn.asked) where
-  by : (before lost : Bool) → (before && lost && nat_lt server.made 4294967295) ≡ false
-  by true true = ap (λ (made : ℕ). nat_lt made 4294967295) last
-  by true false = refl
-  by false lost = refl
+none_left server turn last = by (is_before turn.side) where
+  by : (before : Bool) → (before && is_numbered server None) ≡ false
+  by true = ap (λ (made : ℕ). nat_lt made 4294967295) last
+  by false = refl
 
 -- a turn without a session opens one
 pub opens_one : (server : State) (session : Option ℕ) (turn : Turn) → is_command turn.asked ≡ false → session ≡ None → is_freely_passed server turn ≡ false → is_free_turn server session turn ≡ false
