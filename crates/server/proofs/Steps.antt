@@ -97,10 +97,6 @@ pub commits_state : (tables after : Database) (written : ℕ → List RowEvent) 
 commits_state tables after written all_sessions new number have made logged =
     rw (logged, made, have number) (ap (λ (w : List RowEvent). state_of (after_events tables w) (logs number [] all_sessions)) (sym (append-nil (writes_of (session_of number all_sessions.sessions)))))
 
-pub after_state : (tables later after : Database) (written more : ℕ → List RowEvent) (all_sessions new : State) (number : ℕ) (events : List RowEvent) → HaveWritten written all_sessions → later ≡ tables → more number ≡ written number ++ events → after ≡ after_events later (more number) → new ≡ logs number events all_sessions
-    → state_of after new ≡ commits number events (state_of tables all_sessions)
-after_state tables later after written more all_sessions new number events have same own made logged = rw (logged, made, same, own, have number) refl
-
 pub commits_have : (written after : ℕ → List RowEvent) (all_sessions new : State) (number : ℕ) (events : List RowEvent) → HaveWritten written all_sessions → after number ≡ [] → OthersSame number written after → new ≡ logs number events all_sessions → HaveWritten after new
 commits_have written after all_sessions new number events have none same logged = rw logged (have_rests number written after all_sessions.sessions have none same)
 
@@ -114,10 +110,6 @@ loses_state tables after all_sessions new number same lost = rw (lost, same) ref
 pub loses_have : (written after : ℕ → List RowEvent) (all_sessions new : State) (number : ℕ) → HaveWritten written all_sessions → after number ≡ [] → OthersSame number written after → new ≡ loses number all_sessions → HaveWritten after new
 unfolding loses
 loses_have written after all_sessions new number have none same lost = rw lost (have_lost number written after all_sessions.sessions have none same)
-
--- the parts change so, and the tables stay
-pub state_so : (tables after : Database) (all_sessions new : State) → after ≡ tables → new ≡ all_sessions → state_of after new ≡ state_of tables all_sessions
-state_so tables after all_sessions new same is = rw (same, is) refl
 
 pub grows_have : (written after : ℕ → List RowEvent) (tables : Database) (all_sessions new : State) (number : ℕ) (need : Need) (events : List RowEvent) → GoTogether tables written all_sessions → is_live all_sessions number ≡ true → after number ≡ written number ++ events → OthersSame number written after → new ≡ goes_on number need events all_sessions → HaveWritten after new
 grows_have written after tables all_sessions new number need events together live more same grown = rw grown (have_grows number need events written after all_sessions.sessions (live_found number all_sessions.sessions live) together.have more same)
