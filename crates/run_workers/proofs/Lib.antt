@@ -1,3 +1,4 @@
+mod Sending
 mod Ordering
 mod Passing
 pub mod WorkerRun
