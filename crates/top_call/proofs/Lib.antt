@@ -10,6 +10,7 @@ mod MarkedRuns
 mod Numbers
 mod ReadTraces
 mod ReadTurns
+mod ServerSends
 mod Rebuilt
 mod RestedServers
 mod ResumedRuns
