@@ -6,10 +6,11 @@ ghost use Rattle.std.specs.List.{list_all};
 ghost use Rattle.base_values.specs.StoredValues.{half, lowest, highest, character_count, digits_number, text_number, in_range, text_within, bytes_within, stores, seeks};
 ghost use Rattle.base_values.specs.Faults.{Answers};
 
+use crate::duplicate::Duplicate;
 use crate::kind::Kind;
-use crate::sequence::Sequence;
+use crate::shared::Shared;
 use crate::text::Chars;
-use crate::value::Value;
+use crate::value::{Bytes, Value};
 use crate::{StoreFault, Unfit};
 use itoa::Buffer;
 use std::alloc::{AllocError, Global};
@@ -36,12 +37,12 @@ pub fn store(alloc: Global, value: &Value, kind: Kind, nullable: bool) -> Result
                 Some(number) => number_in_range(number, bytes, unsigned),
                 None => Err(StoreFault::Refused(Unfit::Kind)),
             },
-            Kind::VarChar(limit) => short_text(alloc, chars.as_str(), limit),
+            Kind::VarChar(limit) => same_short_text(chars, limit),
             Kind::VarBinary(limit) => short_bytes(alloc, chars.as_str().as_bytes(), limit),
         },
         Value::Blob(blob) => match kind {
             Kind::Int { .. } | Kind::VarChar(_) => Err(StoreFault::Refused(Unfit::Kind)),
-            Kind::VarBinary(limit) => short_bytes(alloc, blob.as_slice(), limit),
+            Kind::VarBinary(limit) => same_short_bytes(blob, limit),
         },
     }
 }
@@ -66,12 +67,12 @@ pub fn seek(alloc: Global, value: &Value, kind: Kind) -> Result<Value, StoreFaul
                 Some(number) => Ok(Value::Num(number)),
                 None => Err(StoreFault::Refused(Unfit::Kind)),
             },
-            Kind::VarChar(_) => Ok(text_value(alloc, chars.as_str())?),
+            Kind::VarChar(_) => Ok(Value::Text(chars.copy()?)),
             Kind::VarBinary(_) => Ok(bytes_value(alloc, chars.as_str().as_bytes())?),
         },
         Value::Blob(blob) => match kind {
             Kind::Int { .. } | Kind::VarChar(_) => Err(StoreFault::Refused(Unfit::Kind)),
-            Kind::VarBinary(_) => Ok(bytes_value(alloc, blob.as_slice())?),
+            Kind::VarBinary(_) => Ok(Value::Blob(blob.copy()?)),
         },
     }
 }
@@ -97,6 +98,17 @@ fn short_text(alloc: Global, text: &str, limit: u16) -> Result<Value, StoreFault
     Ok(text_value(alloc, text)?)
 }
 
+/// The same text, which the value shares.
+#[tactic(auto, unfolding(crate::specs::StoredValues::text_within))]
+fn same_short_text(text: &Chars, limit: u16) -> Result<Value, StoreFault>
+    ensures { Answers (λ value. value) result (text_within limit text.now) }
+{
+    if character_count(text.as_str()) > usize::from(limit) {
+        return Err(StoreFault::Refused(Unfit::Length));
+    }
+    Ok(Value::Text(text.copy()?))
+}
+
 fn text_value(alloc: Global, text: &str) -> Result<Value, AllocError>
     ensures { IfOk result (λ value. value ≡ Value.Text text.now) }
 {
@@ -113,10 +125,21 @@ fn short_bytes(alloc: Global, bytes: &[u8], limit: u16) -> Result<Value, StoreFa
     Ok(bytes_value(alloc, bytes)?)
 }
 
+/// The same bytes, which the value shares.
+#[tactic(auto, unfolding(crate::specs::StoredValues::bytes_within))]
+fn same_short_bytes(bytes: &Bytes, limit: u16) -> Result<Value, StoreFault>
+    ensures { Answers (λ value. value) result (bytes_within limit bytes.now) }
+{
+    if bytes.len() > usize::from(limit) {
+        return Err(StoreFault::Refused(Unfit::Length));
+    }
+    Ok(Value::Blob(bytes.copy()?))
+}
+
 fn bytes_value(alloc: Global, bytes: &[u8]) -> Result<Value, AllocError>
     ensures { IfOk result (λ value. value ≡ Value.Blob bytes.now) }
 {
-    Ok(Value::Blob(Sequence::from_vec(Vec::from_slice(alloc, bytes)?)))
+    Ok(Value::Blob(Shared::from_vec(Vec::from_slice(alloc, bytes)?)?))
 }
 
 fn lowest(bytes: u8, unsigned: bool) -> i128

@@ -44,6 +44,15 @@ impl Chars {
         })
     }
 
+    /// A text that was built, without its spare room.
+    pub fn from_string(text: String) -> Result<Chars, AllocError>
+        ensures { IfOk result (λ chars. chars ≡ string_bytes text) }
+    {
+        Ok(Chars {
+            text: ArcStr::from_string(text)?,
+        })
+    }
+
     /// The text itself.
     pub fn as_str(&self) -> &str
         ensures { result.now ≡ self.now }
@@ -104,6 +113,15 @@ impl Text {
         Text {
             text: String::new(alloc),
         }
+    }
+
+    /// The empty text, with room for so many bytes.
+    pub fn with_capacity(alloc: Global, bytes: usize) -> Result<Text, AllocError>
+        ensures { IfOk result (λ text. text ≡ []) }
+    {
+        Ok(Text {
+            text: String::with_capacity(alloc, bytes)?,
+        })
     }
 
     /// The text itself.

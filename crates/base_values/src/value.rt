@@ -8,8 +8,8 @@ use crate::shared::Shared;
 use crate::text::Chars;
 use std::alloc::AllocError;
 
-/// Bytes in order.
-pub type Bytes = Sequence<u8>;
+/// Bytes in order. Copies share them.
+pub type Bytes = Shared<u8>;
 
 /// A literal, or what a column holds.
 pub enum Value {

@@ -6,7 +6,7 @@ ghost use Rattle.std.specs.Str.{IsUtf8};
 ghost use Rattle.server_log.specs.Encodings.{length_bytes, half_bytes, number_bytes, sized, value_bytes, values_bytes, tag_of, columns_of, values_of, body_of, encoded, IsEncodable};
 ghost use Rattle.server_log.specs.Laws.{IsHeld, IsWritten};
 
-use base_values::{Bytes, Change, RowEvent, Sequence, Value};
+use base_values::{Change, RowEvent, Sequence, Value};
 use std::alloc::{AllocError, Global};
 use std::mem;
 
@@ -261,7 +261,7 @@ fn extend(into: &mut Vec<u8>, event: &RowEvent) -> Result<(), AllocError>
 }
 
 /// Adds the event's bytes at the end.
-pub fn encode(alloc: Global, event: &RowEvent, into: &mut Bytes) -> Result<(), AllocError>
+pub fn encode(alloc: Global, event: &RowEvent, into: &mut Sequence<u8>) -> Result<(), AllocError>
     requires { IsEncodable event.now }
     ensures ok { OnOk result (into.new ≡ into.old ++ encoded event.now) }
     ensures err { OnErr result (into.new ≡ into.old) }

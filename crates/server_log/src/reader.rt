@@ -90,7 +90,7 @@ fn blob_at(alloc: Global, bytes: &[u8]) -> Result<(Option<Value>, &[u8]), Decode
     ensures { Reads (λ value. (value.0, value.1.now)) result (blob_at bytes.now) }
 {
     let (blob, rest) = sized_at(DecodeFault::BadLength, bytes)?;
-    let blob = Sequence::from_vec(Vec::from_slice(alloc, blob)?);
+    let blob = Shared::from_vec(Vec::from_slice(alloc, blob)?)?;
     Ok((Some(Value::Blob(blob)), rest))
 }
 

@@ -2,7 +2,7 @@
 
 ghost use Rattle.std.specs.Prelude.{◌≡◌};
 
-use base_values::{Bytes, Chars, Kind, Row, Sequence, Shared, Text, Value};
+use base_values::{Chars, Kind, Row, Sequence, Shared, Text, Value};
 use std::alloc::{AllocError, AllocFailed, Global};
 
 /// Why a call has no answer.
@@ -62,7 +62,7 @@ pub fn unsigned_of(text: &str) -> Result<u32, CallFault> {
 }
 
 /// Bytes that are written as two digits each, with blanks between them.
-pub fn bytes_of(alloc: Global, codes: &str) -> Result<Bytes, CallFault> {
+pub fn bytes_of(alloc: Global, codes: &str) -> Result<Sequence<u8>, CallFault> {
     let mut bytes = Sequence::new(alloc);
     for code in codes.split(' ') {
         if !code.is_empty() {
@@ -90,7 +90,7 @@ pub fn value_of(alloc: Global, text: &str) -> Result<Value, CallFault> {
         return Ok(Value::Num(number_of(text)?));
     };
     if let Some(codes) = quoted.strip_prefix("x'") {
-        return Ok(Value::Blob(bytes_of(alloc, codes)?));
+        return Ok(Value::Blob(Shared::from_sequence(bytes_of(alloc, codes)?)?));
     }
     let written = quoted.strip_prefix('\'').ok_or(CallFault::Unread)?;
     Ok(Value::Text(Chars::new(alloc, written)?))

@@ -3,7 +3,7 @@
 ghost use Rattle.std.specs.Prelude.{◌≡◌, IfOk};
 ghost use Rattle.sql_grammar.specs.WordValues.ReadBack.{word_value};
 
-use base_values::{Chars, Sequence, Value};
+use base_values::{Chars, Shared, Value};
 use sql_words::{Word, WordClass};
 use std::alloc::{AllocError, Global};
 
@@ -13,11 +13,11 @@ pub fn literal(alloc: Global, word: &Word<'_>) -> Result<Option<Value>, AllocErr
 {
     Ok(match word.class {
         WordClass::Text => match word.text_value(alloc)? {
-            Some(text) => Some(Value::Text(Chars::new(alloc, text.as_str())?)),
+            Some(text) => Some(Value::Text(Chars::from_string(text)?)),
             None => None,
         },
         WordClass::Bytes => match word.bytes_value(alloc)? {
-            Some(bytes) => Some(Value::Blob(Sequence::from_vec(bytes))),
+            Some(bytes) => Some(Value::Blob(Shared::from_vec(bytes)?)),
             None => None,
         },
         WordClass::Number => match word.number_value() {

@@ -1,6 +1,6 @@
 //! Row events and their bytes.
 
-use base_values::{Bytes, Change, RowEvent, Sequence, Text, print_row};
+use base_values::{Change, RowEvent, Sequence, Text, print_row};
 use server_log::{DecodeFault, cost, decode, encode};
 use std::alloc::{AllocError, Global};
 use test_lines::{CallFault, bytes_of, text_of};
@@ -11,7 +11,7 @@ struct Reencoded {
     event: RowEvent,
     taken: usize,
     cost: u64,
-    bytes: Bytes,
+    bytes: Sequence<u8>,
 }
 
 fn reencode(alloc: Global, bytes: &[u8]) -> Result<Reencoded, DecodeFault> {

@@ -1,6 +1,6 @@
 //! The words of statements, and what single words stand for.
 
-use base_values::{Sequence, Text, Value, print_value};
+use base_values::{Shared, Text, Value, print_value};
 use sql_words::{Word, WordFault, Words, words};
 use std::alloc::Global;
 use test_lines::{CallFault, say, text_of};
@@ -45,7 +45,7 @@ fn value(alloc: Global, word: &Word<'_>) -> Result<Text, CallFault> {
     }
     if let Some(bytes) = word.bytes_value(alloc)? {
         output.push_str("bytes ")?;
-        print_value(&Value::Blob(Sequence::from_vec(bytes)), &mut output)?;
+        print_value(&Value::Blob(Shared::from_vec(bytes)?), &mut output)?;
     }
     if let Some(number) = word.number_value() {
         output.push_str("number ")?;
