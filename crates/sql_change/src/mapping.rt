@@ -5,7 +5,7 @@ ghost use Rattle.sql_change.specs.AlteredSchema.{source_of, map_of};
 
 use base_values::gho_schema::Column;
 use base_values::row_conversion::{ColumnMap, MapColumn, Origin};
-use base_values::{Duplicate, Sequence, Value};
+use base_values::{Duplicate, Sequence, Shared, Value};
 use std::alloc::{AllocError, Global};
 
 fn source_of(origin: Option<usize>, default: &Option<Value>) -> Result<Origin, AllocError>
@@ -37,5 +37,5 @@ pub fn map_of(
             origin,
         })?;
     }
-    Ok(map)
+    Shared::from_sequence(map)
 }

@@ -2,7 +2,7 @@
 
 ghost use Rattle.std.specs.Prelude.{◌≡◌, IfOk};
 
-use crate::{Duplicate, Kind, Sequence, Value};
+use crate::{Duplicate, Kind, Shared, Value};
 use std::alloc::AllocError;
 
 /// A new column: what it stores, and of what.
@@ -45,8 +45,8 @@ impl Drop for Origin {
     }
 }
 
-/// The new columns in order.
-pub type ColumnMap = Sequence<MapColumn>;
+/// The new columns in order. Copies share them: each row that is copied names its map.
+pub type ColumnMap = Shared<MapColumn>;
 
 impl Duplicate for Origin {
     fn copy(&self) -> Result<Origin, AllocError> {

@@ -4,7 +4,7 @@ use crate::text_calls::values::reported_row;
 use base_values::row_conversion::{
     ColumnMap, ConversionFault, MapColumn, Origin, UnfitAt, converted_row,
 };
-use base_values::{Row, Sequence, Text};
+use base_values::{Row, Sequence, Shared, Text};
 use std::alloc::Global;
 use test_lines::{CallFault, kind_of, place_of, row_of, value_of};
 
@@ -29,7 +29,7 @@ fn map_of(alloc: Global, text: &str) -> Result<ColumnMap, CallFault> {
     for column in text.split("; ") {
         map.push(column_of(alloc, column)?)?;
     }
-    Ok(map)
+    Ok(Shared::from_sequence(map)?)
 }
 
 /// The first column that refuses, and the number.
