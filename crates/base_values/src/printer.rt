@@ -33,7 +33,7 @@ pub fn print_value(value: &Value, into: &mut Text) -> Result<(), AllocError>
 fn quoted_text(alloc: Global, text: &str) -> Result<Text, AllocError>
     ensures { IfOk result (λ quoted. quoted ≡ codes "'" ++ flat_map escaped text.now ++ codes "'") }
 {
-    let mut quoted = Text::new(alloc);
+    let mut quoted = Text::with_capacity(alloc, text.len() + 2)?;
     quoted.push_str("'")?;
     for character in text.chars() {
         push_escaped(&mut quoted, character)?;
@@ -88,7 +88,7 @@ pub fn print_row(row: &[Value], into: &mut Text) -> Result<(), AllocError>
     ensures ok { OnOk result (into.new ≡ into.old ++ printed_row row.now) }
     ensures err { OnErr result (into.new ≡ into.old) }
 {
-    let mut printed = Text::new(into.allocator());
+    let mut printed = Text::with_capacity(into.allocator(), 16 * row.len())?;
     printed.push_str("(")?;
     push_listed(row, &mut printed)?;
     printed.push_str(")")?;

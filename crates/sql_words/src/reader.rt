@@ -6,12 +6,14 @@ ghost use Rattle.sql_words.specs.Readings.{views, words_of, IsFaultOf, StandIn};
 use crate::front::{Front, front_at};
 use crate::word::{Word, WordFault, Words};
 use std::alloc::Global;
+use std::cmp::min;
 
 fn words_in<'a>(alloc: Global, text: &'a str) -> Result<Vec<Word<'a>>, WordFault>
     ensures read { IfOk result (λ words. words_of text.now ≡ Ok (views words.items)) }
     ensures fault { IfErr result (IsFaultOf (words_of text.now)) }
 {
-    let mut found = Vec::new(alloc);
+    // Room for the words of a usual statement, so that the list seldom grows.
+    let mut found = Vec::with_capacity(alloc, min(text.len() / 2 + 1, 64))?;
     let mut rest = text;
     while !rest.is_empty() {
         let place = text.len() - rest.len();
