@@ -1,66 +1,26 @@
 //! The text of a word that owns it.
 
-ghost use Rattle.std.specs.Prelude.{◌≡◌, IfOk, IfSome};
-ghost use Rattle.sql_grammar.specs.TokenTexts.{sign_bytes};
+ghost use Rattle.std.specs.Prelude.{◌≡◌, IfOk};
 
+use arrayvec::ArrayString;
 use base_values::Text;
 use std::alloc::{AllocError, Global};
 use std::marker::Model;
 
-/// A sign that half of the words of a row or a statement are.
-#[derive(Clone, Copy)]
-enum CommonSign {
-    /// `(`
-    Open,
-    /// `)`
-    Close,
-    /// `,`
-    Comma,
-    /// `=`
-    Equals,
-}
-
-impl CommonSign {
-    /// The sign of this text.
-    fn of(text: &str) -> Option<CommonSign>
-        ensures { IfSome result (λ sign. sign_bytes sign ≡ text.now) }
-    {
-        match text {
-            "(" => Some(CommonSign::Open),
-            ")" => Some(CommonSign::Close),
-            "," => Some(CommonSign::Comma),
-            "=" => Some(CommonSign::Equals),
-            _ => None,
-        }
-    }
-
-    /// Its text.
-    fn as_str(self) -> &'static str
-        ensures { result.now ≡ sign_bytes self }
-    {
-        match self {
-            CommonSign::Open => "(",
-            CommonSign::Close => ")",
-            CommonSign::Comma => ",",
-            CommonSign::Equals => "=",
-        }
-    }
-}
-
 /// What is kept of a word's text.
 enum Kept {
-    /// Which sign it is: that takes no memory.
-    Sign(CommonSign),
-    /// Any other.
-    Other(Text),
+    /// Up to 24 bytes, as nearly all words have: they lie in the word itself and take no memory.
+    Short(ArrayString<24>),
+    /// A longer text. It isn't shared: nothing copies a word.
+    Long(Text),
 }
 
 // By hand, so that crates above prove it as one call.
 impl Drop for Kept {
     fn drop(self) {
         match self {
-            Kept::Sign(_) => {}
-            Kept::Other(text) => drop(text),
+            Kept::Short(_) => {}
+            Kept::Long(text) => drop(text),
         }
     }
 }
@@ -92,16 +52,15 @@ impl TokenText {
     pub fn new(alloc: Global, text: &str) -> Result<TokenText, AllocError>
         ensures { IfOk result (λ copy. copy ≡ text.now) }
     {
-        if let Some(sign) = CommonSign::of(text) {
+        if let Ok(short) = ArrayString::from(text) {
             return Ok(TokenText {
-                kept: Kept::Sign(sign),
+                kept: Kept::Short(short),
             });
         }
-        // A text that isn't shared: nothing copies a token, and this one takes memory once.
-        let mut copy = Text::new(alloc);
+        let mut copy = Text::with_capacity(alloc, text.len())?;
         copy.push_str(text)?;
         Ok(TokenText {
-            kept: Kept::Other(copy),
+            kept: Kept::Long(copy),
         })
     }
 
@@ -110,8 +69,8 @@ impl TokenText {
         ensures { result.now ≡ self.now }
     {
         match &self.kept {
-            Kept::Sign(sign) => sign.as_str(),
-            Kept::Other(text) => text.as_str(),
+            Kept::Short(text) => text.as_str(),
+            Kept::Long(text) => text.as_str(),
         }
     }
 }
