@@ -9,14 +9,14 @@ use Rattle.sql_words.proofs.Following.{Along, Along-past_gap, Along-past_found, 
 use Rattle.sql_words.proofs.reader.words_in.Goals as goal
 use Rattle.sql_words.proofs.reader.words_in.Goals.{After-split_at}
 
-pub returns-from_residual-in_err-front-clause-fault : goal.returns-from_residual-in_err-front-clause-fault
-returns-from_residual-in_err-front-clause-fault c =
+pub returns-in_err-front-clause-fault : goal.returns-in_err-front-clause-fault
+returns-in_err-front-clause-fault c =
     let rest = c.loop-rest.rest.now in
     let place = length c.args.text.now - length rest in
-    let read : front_at place rest ≡ Err c.from_residual-in_err-front.field-0.0 = ap (front_at place) (sym c.as_bytes.ensures.value) ∙ sym c.front_at.ensures ∙ c.from_residual-in_err-front.was in
+    let read : front_at place rest ≡ Err c.in_err-front.field-0.0 = ap (front_at place) (sym c.as_bytes.ensures.value) ∙ sym c.front_at.ensures ∙ c.in_err-front.was in
     let any : 0 < length rest = omega (arith, false-eqb _ 0 c.loop-rest-test.ensures) in
-    let p = err_from_is_err_and c.from_residual.result c.from_residual.ensures.1 in
-    rw (p.1, p.2) (IsFaultOf-met (words_of c.args.text.now) c.from_residual-in_err-front.field-0.0 (Along-fault c.args.text.now (views c.loop-rest.found.items) rest c.loop-rest.invariant c.from_residual-in_err-front.field-0.0 any read))
+    let p = err_from_is_err_and c.from_residual-in_err-front.result c.from_residual-in_err-front.ensures.1 in
+    rw (p.1, p.2) (IsFaultOf-met (words_of c.args.text.now) c.in_err-front.field-0.0 (Along-fault c.args.text.now (views c.loop-rest.found.items) rest c.loop-rest.invariant c.in_err-front.field-0.0 any read))
 
 pub split_at-requires : goal.split_at-requires
 split_at-requires c =
