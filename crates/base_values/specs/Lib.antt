@@ -1,3 +1,4 @@
+pub mod CompactTexts
 pub mod KeyOrder
 pub mod Faults
 pub mod Laws

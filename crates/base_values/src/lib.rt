@@ -4,6 +4,7 @@
 //! (`mysql_errors`).
 #![tactic(auto)]
 
+mod compact_text;
 mod comparison;
 mod duplicate;
 mod event;
@@ -25,6 +26,7 @@ pub mod tool_names;
 mod unfit;
 mod value;
 
+pub use compact_text::CompactText;
 pub use comparison::compare;
 pub use duplicate::Duplicate;
 pub use event::{Change, Events, RowEvent};

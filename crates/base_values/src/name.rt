@@ -1,22 +1,23 @@
 //! Names of tables, columns and keys.
 
-ghost use Rattle.std.specs.Prelude.{◌≡◌, ◌<◌, nat_eq, get_or, IfOk};
+ghost use Rattle.std.specs.Prelude.{◌≡◌, ◌<◌, nat_eq, get_or, length, IfOk};
 ghost use Rattle.std.specs.Ordering.{nat_cmp};
 ghost use Rattle.std.specs.Cmp.{partial_equiv_from_equiv};
 ghost use Rattle.std.specs.Cmp.Lexicographic.{pointwise, slice_cmp};
 ghost use Rattle.std.proofs.lemmas.Cmp.{nat_list_eq_equiv};
 ghost use Rattle.base_values.specs.NameHeads.{IsHead};
 
+use crate::compact_text::CompactText;
 use crate::duplicate::Duplicate;
 use crate::sequence::Sequence;
 use std::alloc::{AllocError, Global};
 use std::cmp::Ordering;
 use std::marker::Model;
-use std::sync::ArcStr;
+use std::sync::Arc;
 
 /// The name of a table, a column or a key. Which texts are names, and how they compare, the reader of each says. Copies share the text.
 pub struct Name {
-    text: ArcStr,
+    text: Arc<CompactText>,
     // The first eight bytes as a number: most names differ in it, so they are compared by one test.
     head: u64,
 }
@@ -31,14 +32,14 @@ impl Drop for Name {
 
 impl Model for Name {
     ghost use Rattle.std.specs.Prelude.{ℕ, List};
-    ghost use Rattle.std.specs.Arc.{arc_str_bytes};
+    ghost use Rattle.std.specs.Arc.{arc_value};
     ghost use Rattle.base_values.specs.NameHeads.{IsHead};
 
     ghost Value = { List ℕ };
 
-    ghost view = { λ n. arc_str_bytes n.text };
+    ghost view = { λ n. arc_value n.text };
 
-    ghost invariant = { λ n. IsHead 8 (arc_str_bytes n.text) n.head };
+    ghost invariant = { λ n. IsHead 8 (arc_value n.text) n.head };
 }
 
 /// The byte at a place as a number, and 0 after the last.
@@ -69,7 +70,7 @@ impl Name {
         ensures { IfOk result (λ name. name ≡ text.now) }
     {
         Ok(Name {
-            text: ArcStr::from_str(alloc, text)?,
+            text: Arc::new(alloc, CompactText::new(alloc, text)?)?,
             head: head_of(text.as_bytes()),
         })
     }
@@ -81,6 +82,13 @@ impl Name {
         self.text.as_str()
     }
 
+    /// How many bytes its text has.
+    fn len(&self) -> usize
+        ensures { result ≡ length self.now }
+    {
+        self.as_str().len()
+    }
+
     /// Which of two names comes first, by their bytes.
     pub fn compare(&self, other: &Name) -> Ordering
         ensures { result ≡ slice_cmp nat_cmp self.now other.now }
@@ -89,7 +97,7 @@ impl Name {
         if heads.is_ne() {
             return heads;
         }
-        let (len, other_len) = (self.text.len(), other.text.len());
+        let (len, other_len) = (self.len(), other.len());
         if len <= 8 && other_len <= 8 {
             return len.cmp(&other_len);
         }
@@ -113,7 +121,7 @@ impl PartialEq for Name {
     ghost laws = { partial_equiv_from_equiv nat_list_eq_equiv };
 
     fn eq(&self, other: &Name) -> bool {
-        self.head == other.head && self.text == other.text
+        self.head == other.head && self.as_str() == other.as_str()
     }
 }
 

@@ -7,7 +7,6 @@ pub mod Literals
 pub mod Pieces
 pub mod Reads
 pub mod Scope
-pub mod TokenTexts
 pub mod Tokens
 pub mod Versions
 pub mod WordValues

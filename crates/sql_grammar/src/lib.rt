@@ -10,7 +10,6 @@ mod literals;
 mod pieces;
 mod scope;
 mod token;
-mod token_text;
 mod tokens;
 mod versions;
 pub mod word_values;
@@ -26,6 +25,5 @@ pub use pieces::{
 };
 pub use scope::{begins_no_item, in_version, mismatch};
 pub use token::Token;
-pub use token_text::TokenText;
 pub use tokens::{TextWords, text_words};
 pub use versions::{has_counters, is_auto_increment};

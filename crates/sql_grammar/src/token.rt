@@ -2,7 +2,7 @@
 
 ghost use Rattle.std.specs.Prelude.{◌≡◌};
 
-use crate::token_text::TokenText;
+use base_values::CompactText;
 use base_values::gho_schema::same_name;
 use sql_words::{Word, WordClass};
 
@@ -11,7 +11,7 @@ pub struct Token {
     /// What sort of word it is.
     pub class: WordClass,
     /// The word as it is in the text, with its quotes.
-    pub text: TokenText,
+    pub text: CompactText,
 }
 
 // By hand, so that crates above prove it as one call.

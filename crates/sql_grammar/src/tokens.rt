@@ -6,8 +6,7 @@ ghost use Rattle.sql_words.specs.Readings.{views, words_of};
 ghost use Rattle.sql_grammar.specs.Tokens.{token_of, words_or_none, cut_at, text_words};
 
 use crate::token::Token;
-use crate::token_text::TokenText;
-use base_values::Sequence;
+use base_values::{CompactText, Sequence};
 use sql_words::{Word, WordFault, words};
 use std::alloc::{AllocError, Global};
 
@@ -25,7 +24,7 @@ fn token_of(alloc: Global, word: &Word<'_>) -> Result<Token, AllocError>
 {
     Ok(Token {
         class: word.class,
-        text: TokenText::new(alloc, word.text)?,
+        text: CompactText::new(alloc, word.text)?,
     })
 }
 
