@@ -64,6 +64,17 @@ impl CompactText {
         })
     }
 
+    /// A text that was built.
+    pub fn from_text(text: Text) -> CompactText
+        ensures { result ≡ text }
+    {
+        let bytes = match ArrayString::from(text.as_str()) {
+            Ok(short) => Bytes::Here(short),
+            Err(_) => Bytes::Elsewhere(text),
+        };
+        CompactText { bytes }
+    }
+
     /// The text itself.
     pub fn as_str(&self) -> &str
         ensures { result.now ≡ self.now }

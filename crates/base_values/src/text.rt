@@ -6,15 +6,16 @@ ghost use Rattle.std.specs.Cmp.{partial_equiv_from_equiv};
 ghost use Rattle.std.specs.Cmp.Lexicographic.{pointwise};
 ghost use Rattle.std.proofs.lemmas.Cmp.{nat_list_eq_equiv};
 
+use crate::compact_text::CompactText;
 use crate::duplicate::Duplicate;
 use itoa::Buffer;
 use std::alloc::{AllocError, Global};
 use std::marker::Model;
-use std::sync::ArcStr;
+use std::sync::Arc;
 
 /// The text of a value, of a comment or of a default. Copies share it.
 pub struct Chars {
-    text: ArcStr,
+    text: Arc<CompactText>,
 }
 
 // By hand, so that crates above prove it as one call.
@@ -27,11 +28,11 @@ impl Drop for Chars {
 
 impl Model for Chars {
     ghost use Rattle.std.specs.Prelude.{ℕ, List};
-    ghost use Rattle.std.specs.Arc.{arc_str_bytes};
+    ghost use Rattle.std.specs.Arc.{arc_value};
 
     ghost Value = { List ℕ };
 
-    ghost view = { λ c. arc_str_bytes c.text };
+    ghost view = { λ c. arc_value c.text };
 }
 
 impl Chars {
@@ -40,16 +41,17 @@ impl Chars {
         ensures { IfOk result (λ chars. chars ≡ text.now) }
     {
         Ok(Chars {
-            text: ArcStr::from_str(alloc, text)?,
+            text: Arc::new(alloc, CompactText::new(alloc, text)?)?,
         })
     }
 
-    /// A text that was built, without its spare room.
+    /// A text that was built.
     pub fn from_string(text: String) -> Result<Chars, AllocError>
         ensures { IfOk result (λ chars. chars ≡ string_bytes text) }
     {
+        let alloc = *text.allocator();
         Ok(Chars {
-            text: ArcStr::from_string(text)?,
+            text: Arc::new(alloc, CompactText::from_text(Text { text }))?,
         })
     }
 
@@ -76,7 +78,7 @@ impl PartialEq for Chars {
     ghost laws = { partial_equiv_from_equiv nat_list_eq_equiv };
 
     fn eq(&self, other: &Chars) -> bool {
-        self.text == other.text
+        self.as_str() == other.as_str()
     }
 }
 

@@ -4,14 +4,15 @@ ghost use Rattle.std.specs.Prelude.{◌≡◌, ◌++◌, codes, IfOk};
 ghost use Rattle.std.specs.Str.{bytes_eq};
 ghost use Rattle.base_values.specs.ToolNames.{ghost_name, log_name, old_name, is_tool_name};
 
-use crate::Name;
+use crate::{Name, Text};
 use std::alloc::{AllocError, Global};
 
 /// The migrated table's name between a low line and an ending.
 fn name_with(alloc: Global, table: &Name, ending: &str) -> Result<Name, AllocError>
     ensures { IfOk result (λ name. name ≡ codes "_" ++ table.now ++ ending.now) }
 {
-    let mut text = String::from_str(alloc, "_")?;
+    let mut text = Text::with_capacity(alloc, 1 + table.as_str().len() + ending.len())?;
+    text.push_str("_")?;
     text.push_str(table.as_str())?;
     text.push_str(ending)?;
     Name::new(alloc, text.as_str())
