@@ -16,7 +16,11 @@ use crate::log::segments::Segments;
 use base_values::{Names, RowEvent};
 use server_model::Answer;
 use std::alloc::{AllocError, Global};
+use std::cmp::max;
 use std::marker::Model;
+
+/// For how many bytes room is made at once: most transactions have an event or two, of some tens of bytes each.
+const LEAST_ROOM: usize = 1024;
 
 /// The events of the committed transactions, as bytes in segments. How many of them are unread is known at once of the tables
 /// that it watches. Contracts see besides for how many more bytes it has room.
@@ -86,8 +90,9 @@ impl Log {
         if bytes <= self.spare {
             return Ok(());
         }
-        let events = bytes as usize / 8 + 1;
-        self.events.reserve(bytes as usize, events)?;
+        let room = max(bytes as usize, LEAST_ROOM);
+        let events = room / 8 + 1;
+        self.events.reserve(room, events)?;
         self.segments.reserve(events)?;
         self.counts.reserve(events)?;
         self.spare = bytes;
