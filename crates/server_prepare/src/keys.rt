@@ -9,7 +9,7 @@ use crate::refusals::{Checked, refuses, refuses_value};
 use base_values::gho_schema::{Index, Schema};
 use base_values::mysql_errors::ER_BAD_FIELD_ERROR;
 use base_values::row_conversion::UnfitAt;
-use base_values::{Duplicate, Key, Row, Sequence, Shared, StoreFault, Value, Values, seek};
+use base_values::{Duplicate, Key, Sequence, Shared, StoreFault, Value, Values, seek};
 use std::alloc::{AllocError, Global};
 
 /// Whether each of the places is one of the others.
@@ -72,14 +72,14 @@ pub fn wanted_each(
     schema: &Schema,
     places: &[usize],
     values: &[Value],
-) -> Result<Checked<Row>, AllocError>
+) -> Result<Checked<Values>, AllocError>
     ensures { IfOk result (λ sought. sought ≡ wanted_each schema.now places.now values.now) }
 {
     let mut sought = Sequence::new(alloc);
     let mut rest = values;
     for place in places {
         let Some((value, others)) = rest.split_first() else {
-            return Ok(Ok(Shared::from_sequence(sought)?));
+            return Ok(Ok(sought));
         };
         let value = match wanted_at(alloc, schema, *place, value)? {
             Ok(value) => value,
@@ -88,7 +88,7 @@ pub fn wanted_each(
         sought.push(value)?;
         rest = others;
     }
-    Ok(Ok(Shared::from_sequence(sought)?))
+    Ok(Ok(sought))
 }
 
 fn push_beside(

@@ -3,7 +3,7 @@
 ghost use Rattle.std.specs.Prelude.{◌≡◌, map, IfOk};
 
 use base_script::{Comparison, Set};
-use base_values::{Duplicate, Names, Row, Sequence, Shared};
+use base_values::{Duplicate, Names, Sequence, Values};
 use std::alloc::{AllocError, Global};
 
 /// The columns that are set.
@@ -18,14 +18,14 @@ pub fn set_columns(alloc: Global, sets: &[Set]) -> Result<Names, AllocError>
 }
 
 /// What they are set to.
-pub fn set_values(alloc: Global, sets: &[Set]) -> Result<Row, AllocError>
+pub fn set_values(alloc: Global, sets: &[Set]) -> Result<Values, AllocError>
     ensures { IfOk result (λ values. values ≡ map (λ set. set.value) sets.now) }
 {
     let mut values = Sequence::new(alloc);
     for set in sets {
         values.push(set.value.copy()?)?;
     }
-    Shared::from_sequence(values)
+    Ok(values)
 }
 
 /// The columns that are compared.
@@ -40,12 +40,12 @@ pub fn compared_columns(alloc: Global, comparisons: &[Comparison]) -> Result<Nam
 }
 
 /// What they are compared with.
-pub fn compared_values(alloc: Global, comparisons: &[Comparison]) -> Result<Row, AllocError>
+pub fn compared_values(alloc: Global, comparisons: &[Comparison]) -> Result<Values, AllocError>
     ensures { IfOk result (λ values. values ≡ map (λ comparison. comparison.value) comparisons.now) }
 {
     let mut values = Sequence::new(alloc);
     for comparison in comparisons {
         values.push(comparison.value.copy()?)?;
     }
-    Shared::from_sequence(values)
+    Ok(values)
 }

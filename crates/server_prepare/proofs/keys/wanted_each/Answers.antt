@@ -1,4 +1,4 @@
-use Rattle.std.proofs.Common.{◌≡◌, [], drop, Ok, ap, ◌∙◌}
+use Rattle.std.proofs.Common.{◌≡◌, [], drop}
 use Rattle.std.proofs.lemmas.List.{nil_from_length}
 use Rattle.server_model.specs.Checks.{wanted_each}
 use Rattle.server_prepare.proofs.Beside.{wanted_all}
@@ -7,4 +7,4 @@ use Rattle.server_prepare.proofs.keys.wanted_each.Goals as goal
 pub returns-in_default : goal.returns-in_default
 returns-in_default c =
     let none : c.loop-place.rest.now ≡ [] = nil_from_length c.loop-place.rest.now c.in_default.ensures.cases in
-    ap Ok c.in_ok-from_sequence.ensures ∙ wanted_all c.args.schema.now (drop c.loop-place.place-index c.args.places.now) c.loop-place.sought c.loop-place.rest.now (wanted_each c.args.schema.now c.args.places.now c.args.values.now) none c.loop-place.invariant
+    wanted_all c.args.schema.now (drop c.loop-place.place-index c.args.places.now) c.loop-place.sought c.loop-place.rest.now (wanted_each c.args.schema.now c.args.places.now c.args.values.now) none c.loop-place.invariant
