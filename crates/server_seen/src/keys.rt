@@ -6,7 +6,7 @@ ghost use Rattle.server_model.specs.Rows.{stands};
 ghost use Rattle.server_seen.specs.Stored.{counted};
 ghost use Rattle.server_seen.specs.Written.{with_key};
 
-use base_values::gho_schema::{Index, Places, Schema, clustered_key};
+use base_values::gho_schema::{Index, Places, Schema};
 use base_values::{Duplicate, Key, Sequence, Shared};
 use std::alloc::{AllocError, Global};
 use std::marker::Model;
@@ -61,20 +61,9 @@ fn first_places(alloc: Global, width: usize) -> Result<Places, AllocError>
     Shared::from_sequence(places)
 }
 
-/// The places 0, 1 .. of the values of a table's keys. Where the key is of the table's first columns, these are its own
-/// places, which are shared.
-fn places_of_values(alloc: Global, schema: &Schema) -> Result<Places, AllocError>
-    ensures { IfOk result (λ places. places ≡ counted 0 (length (key_places schema.now))) }
-{
-    match clustered_key(schema) {
-        Some(index) if are_first(index.places.as_slice()) => index.places.copy(),
-        _ => first_places(alloc, schema.key_places().len()),
-    }
-}
-
 /// A schema whose clustered key is at these places. It shares all else with another one.
 #[tactic(auto, unfolding(base_values::specs::GhoSchema::ClusteredKey::clustered_among))]
-fn schema_of_keys(alloc: Global, other: &Schema, places: Places) -> Result<Schema, AllocError>
+fn with_places(alloc: Global, other: &Schema, places: Places) -> Result<Schema, AllocError>
     ensures { IfOk result (λ schema. key_places schema ≡ places) }
 {
     let index = Index { name: None, places };
@@ -88,14 +77,25 @@ fn schema_of_keys(alloc: Global, other: &Schema, places: Places) -> Result<Schem
     })
 }
 
+/// A schema whose clustered key is at the places 0, 1 .. of the values of a table's keys. Where the table's key is of its
+/// first columns, it is the table's own, which is shared.
+fn schema_of_keys(alloc: Global, schema: &Schema) -> Result<Schema, AllocError>
+    ensures { IfOk result (λ of_keys. key_places of_keys ≡ counted 0 (length (key_places schema.now))) }
+{
+    if are_first(schema.key_places()) {
+        return schema.copy();
+    }
+    let places = first_places(alloc, schema.key_places().len())?;
+    with_places(alloc, schema, places)
+}
+
 impl KeySet {
     /// No keys of a table of this schema.
     pub fn new(alloc: Global, schema: &Schema) -> Result<KeySet, AllocError>
         ensures keys { IfOk result (λ set. set.keys ≡ []) }
         ensures width { IfOk result (λ set. set.width ≡ length (key_places schema.now)) }
     {
-        let places = places_of_values(alloc, schema)?;
-        let schema = schema_of_keys(alloc, schema, places)?;
+        let schema = schema_of_keys(alloc, schema)?;
         Ok(KeySet {
             table: Table::new(alloc, schema),
         })
