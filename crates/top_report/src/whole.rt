@@ -53,6 +53,9 @@ fn push_shown_turns(into: &mut Text, plan: &Plan, journal: &[Entry]) -> Result<(
     }
 }
 
+/// How many bytes most reports have at most.
+const USUAL_LENGTH: usize = 4096;
+
 /// The report of a run of the plan with this journal and verdict, which left these tables. Each line ends in a line feed.
 #[tactic(auto, unfolding(crate::specs::Reports::report))]
 pub fn report(
@@ -64,7 +67,7 @@ pub fn report(
 ) -> Result<Text, AllocError>
     ensures { IfOk result (λ text. text ≡ report plan.now journal.now verdict.now (database tables.now)) }
 {
-    let mut text = Text::new(alloc);
+    let mut text = Text::with_capacity(alloc, USUAL_LENGTH)?;
     push_verdict(&mut text, verdict)?;
     push_shown_replies(&mut text, plan, journal.as_slice())?;
     push_tables_left(&mut text, plan.options().show_tables, plan, tables)?;
