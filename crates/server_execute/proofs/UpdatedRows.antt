@@ -1,5 +1,6 @@
 -- An UPDATE row by row: the changes so far, what they wrote, and the rows that are left.
-use Rattle.std.proofs.Common.{◌≡◌, ℕ, suc, ◌+◌, ◌<◌, length, drop, get_or, add-one, drop-cons, Bool, true, false, List, [], ◌∷◌, ◌++◌, cond, Option, Result, Ok, Err, refl, sym, ap, ◌∙◌, subst, append_assoc, append-nil}
+use Rattle.std.proofs.Common.{◌≡◌, ℕ, suc, ◌+◌, ◌<◌, length, map, drop, get_or, add-one, drop-cons, Bool, true, false, List, [], ◌∷◌, ◌++◌, cond, Option, Result, Ok, Err, refl, sym, ap, ◌∙◌, subst, append_assoc, append-nil}
+use Rattle.std.proofs.lemmas.List.{get_or-map}
 use Rattle.base_values.specs.declared.value.Value.{Value}
 use Rattle.base_values.specs.declared.gho_schema.schema.Schema.{Schema}
 use Rattle.base_values.specs.GhoSchema.Rows.{key_places}
@@ -54,36 +55,36 @@ unfolding updates
 ends schema sets met rows written done going = sym (none_left done) ∙ going.same
 
 -- which of the three an update of one row is
-is_same : (b c : Bool) (new : Row) → cond b Same (cond c Clashes (Becomes new)) ≡ Same → b ≡ true
-is_same true c new is = refl
-is_same false true new is = absurd (cc)
-is_same false false new is = absurd (cc)
+is_same : (b c : Bool) → cond b Same (cond c Clashes Becomes) ≡ Same → b ≡ true
+is_same true c is = refl
+is_same false true is = absurd (cc)
+is_same false false is = absurd (cc)
 
-is_clash : (b c : Bool) (new : Row) → cond b Same (cond c Clashes (Becomes new)) ≡ Clashes → (b ≡ false) × (c ≡ true)
-is_clash true c new is = absurd (cc)
-is_clash false true new is = (refl, refl)
-is_clash false false new is = absurd (cc)
+is_clash : (b c : Bool) → cond b Same (cond c Clashes Becomes) ≡ Clashes → (b ≡ false) × (c ≡ true)
+is_clash true c is = absurd (cc)
+is_clash false true is = (refl, refl)
+is_clash false false is = absurd (cc)
 
-is_change : (b c : Bool) (new row : Row) → cond b Same (cond c Clashes (Becomes new)) ≡ Becomes row → (b ≡ false) × (c ≡ false) × (row ≡ new)
-is_change true c new row is = absurd (cc)
-is_change false true new row is = absurd (cc)
-is_change false false new row is = (refl, refl, cc)
+is_change : (b c : Bool) → cond b Same (cond c Clashes Becomes) ≡ Becomes → (b ≡ false) × (c ≡ false)
+is_change true c is = absurd (cc)
+is_change false true is = absurd (cc)
+is_change false false is = (refl, refl)
 
 pub clashes : (schema : Schema) (sets : List (Option Value)) (met rows : List Row) (written : Written) (done : List Change) (old : Row) (left : List Row) → IsGoing schema sets met rows written done (old ∷ left)
-    → Clashes ≡ row_update schema sets (seen (key_places schema) written rows) old → Err (refuses ER_DUP_ENTRY) ≡ updates schema sets met rows
+    → Clashes ≡ row_update schema old (with_sets sets old) (seen (key_places schema) written rows) → Err (refuses ER_DUP_ENTRY) ≡ updates schema sets met rows
 unfolding updates
 clashes schema sets met rows written done old left going is =
     let now : List Row = seen (key_places schema) written rows in
-    let tests = is_clash (same_row old (with_sets sets old)) (clashes_besides schema (with_sets sets old) old now) (with_sets sets old) (sym is) in
+    let tests = is_clash (same_row old (with_sets sets old)) (clashes_besides schema (with_sets sets old) old now) (sym is) in
     let here : updates schema sets (old ∷ left) (seen (key_places schema) written rows) ≡ Err (refuses ER_DUP_ENTRY) = rw (tests.0, tests.1) refl in
     sym (ap (following done) here) ∙ going.same
 
 pub stays : (schema : Schema) (sets : List (Option Value)) (met rows : List Row) (written : Written) (done : List Change) (old : Row) (left : List Row) → IsGoing schema sets met rows written done (old ∷ left)
-    → Same ≡ row_update schema sets (seen (key_places schema) written rows) old → IsGoing schema sets met rows written done left
+    → Same ≡ row_update schema old (with_sets sets old) (seen (key_places schema) written rows) → IsGoing schema sets met rows written done left
 unfolding updates
 stays schema sets met rows written done old left going is =
     let now : List Row = seen (key_places schema) written rows in
-    let test = is_same (same_row old (with_sets sets old)) (clashes_besides schema (with_sets sets old) old now) (with_sets sets old) (sym is) in
+    let test = is_same (same_row old (with_sets sets old)) (clashes_besides schema (with_sets sets old) old now) (sym is) in
     let here : updates schema sets (old ∷ left) (seen (key_places schema) written rows) ≡ updates schema sets left (seen (key_places schema) written rows) = rw test refl in
     record {
       is_table = going.is_table;
@@ -99,18 +100,18 @@ one_after done change (Ok more) = ap {B = Result (List Change) Answer} Ok (appen
 one_after done change (Err refusal) = refl
 
 pub becomes : (schema : Schema) → HasClusteredKey schema → (sets : List (Option Value)) → SetsFit schema.columns sets → (met rows : List Row) (written written' : Written) (done done' : List Change) (old new : Row) (left : List Row) → IsGoing schema sets met rows written done (old ∷ left)
-    → IsWritten (key_places schema) written → Ascends (key_places schema) rows → Becomes new ≡ row_update schema sets (seen (key_places schema) written rows) old
+    → IsWritten (key_places schema) written → Ascends (key_places schema) rows → new ≡ with_sets sets old → Becomes ≡ row_update schema old (with_sets sets old) (seen (key_places schema) written rows)
     → written' ≡ wrote (key_places schema) (changes.Update old new) written → done' ≡ done ++ changes.Update old new ∷ [] → IsGoing schema sets met rows written' done' left
 unfolding updates
-becomes schema key sets sound met rows written written' done done' old new left going is_written ascends is wrote_is done_is =
+becomes schema key sets sound met rows written written' done done' old new left going is_written ascends made is wrote_is done_is =
     let places : List ℕ = key_places schema in
     let now : List Row = seen (key_places schema) written rows in
     let change : Change = changes.Update old (with_sets sets old) in
-    let tests = is_change (same_row old (with_sets sets old)) (clashes_besides schema (with_sets sets old) old now) (with_sets sets old) new (sym is) in
+    let tests = is_change (same_row old (with_sets sets old)) (clashes_besides schema (with_sets sets old) old now) (sym is) in
     let here : updates schema sets (old ∷ left) (seen (key_places schema) written rows) ≡ change_first (changes.Update old (with_sets sets old)) (updates schema sets left (change_rows (key_places schema) (changes.Update old (with_sets sets old)) (seen (key_places schema) written rows))) =
     neither (same_row old (with_sets sets old)) (clashes_besides schema (with_sets sets old) old now) (updates schema sets left now) (change_first change (updates schema sets left (change_rows places change now))) tests.0 tests.1 in
     let one : IsChanged schema old (with_sets sets old) left (seen (key_places schema) written rows) = changed_one schema key sets sound old left now going.left_met going.is_table tests.1 in
-    let own : changes.Update old new ≡ changes.Update old (with_sets sets old) = ap (changes.Update old) tests.2 in
+    let own : changes.Update old new ≡ changes.Update old (with_sets sets old) = ap (changes.Update old) made in
     let then : seen (key_places schema) written' rows ≡ change_rows (key_places schema) (changes.Update old (with_sets sets old)) (seen (key_places schema) written rows) =
     ap (λ (w : Written). seen places w rows) (wrote_is ∙ ap (λ (c : Change). wrote places c written) own) ∙ (seen_change places change written rows is_written ascends one.fits).1 in
     record {
@@ -129,3 +130,8 @@ going_as schema sets met rows written written' done done' left left' same too al
 -- the next of the rows that are met, and those behind it
 pub next_met : (met : List Row) (place : ℕ) (old : Row) → place < length met → old ≡ get_or met place old → drop place met ≡ old ∷ drop (place + 1) met
 next_met met place old within at = drop-cons met place old within ∙ ap (λ (row : Row). row ∷ drop (suc place) met) (sym at) ∙ ap (λ (n : ℕ). old ∷ drop n met) (sym (add-one place))
+
+-- the new row of the one that is met at a place
+pub made_at : (sets : List (Option Value)) (met made : List Row) (place : ℕ) (old new : Row) → made ≡ map (with_sets sets) met → place < length met → old ≡ get_or met place old → new ≡ get_or made place new → new ≡ with_sets sets old
+made_at sets met made place old new is within at there =
+    there ∙ ap (λ (rows : List Row). get_or rows place new) is ∙ get_or-map (with_sets sets) met place old new within ∙ ap (with_sets sets) (sym at)

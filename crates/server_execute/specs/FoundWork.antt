@@ -1,8 +1,10 @@
--- *Found*: a statement's work with the rows of its table that it meets, which are locked and then changed.
+-- *Found*: a statement's work with the rows of its table that it meets, which are locked and then changed, and with the new rows
+-- that an UPDATE makes of them.
 use Rattle.std.specs.Prelude.{List, []}
 use Rattle.base_values.specs.declared.value.Value.{Value}
 use Rattle.base_values.specs.declared.gho_schema.schema.Schema.{Schema}
 use Rattle.table_store.specs.Databases.{TableRows}
+use Rattle.server_model.specs.Needs.{new_rows}
 use Rattle.server_model.specs.Rows.{rows_met}
 use Rattle.server_model.specs.declared.work.Work.{Work}
 use Rattle.server_model.specs.declared.work.Work.TheVariants.{Refuse, Insert, Copy, Replace, Delete, Update, Select}
@@ -19,6 +21,16 @@ met_by schema rows (Delete reach) = rows_met schema reach rows
 met_by schema rows (Update reach sets) = rows_met schema reach rows
 met_by schema rows (Select reach selection) = []
 
--- work, with the rows of a table that it meets
+-- the new rows that work makes of the rows that it meets: those of an UPDATE whose values store
+abbrev pub made_by : Work → List (List Value) → List (List Value)
+made_by (Refuse refusal) met = []
+made_by (Insert row) met = []
+made_by (Copy row) met = []
+made_by (Replace row) met = []
+made_by (Delete reach) met = []
+made_by (Update reach sets) met = new_rows sets met
+made_by (Select reach selection) met = []
+
+-- work, with the rows of a table that it meets, and those that it makes of them
 abbrev pub found_in : TableRows → Work → FoundWork
-found_in table work = record { work = work; met = met_by table.schema table.rows work }
+found_in table work = record { work = work; met = met_by table.schema table.rows work; made = made_by work (met_by table.schema table.rows work) }

@@ -8,6 +8,7 @@ mod found_work;
 pub mod laws;
 mod results;
 mod selection;
+mod settings;
 pub mod statement_work;
 mod updates;
 

@@ -8,7 +8,7 @@ ghost use Rattle.server_model.specs.declared.answer.Answer.TheVariants as answer
 ghost use Rattle.server_model.specs.declared.work.Work.TheVariants as works;
 ghost use Rattle.server_model.specs.StatementResults.{tells};
 ghost use Rattle.server_model.specs.LockedRows.Coverage.{IsWellFormedTable, IsSound};
-ghost use Rattle.server_execute.specs.FoundWork.{met_by};
+ghost use Rattle.server_execute.specs.FoundWork.{met_by, made_by};
 ghost use Rattle.server_execute.specs.ReadyResult.{as_result};
 
 use crate::change_lists::{ReadyResult, deletes, only};
@@ -102,8 +102,8 @@ fn select(
     Ok(only(alloc, selected(alloc, selection, met)?))
 }
 
-/// What a statement says of its table, by the rows of it that the statement meets. The table has a clustered key, its rows are
-/// rows of it, and so are the statement's new rows.
+/// What a statement says of its table, by the rows of it that the statement meets and those that it makes of them. The table has a
+/// clustered key, its rows are rows of it, and so are the statement's new rows.
 #[tactic(auto, unfolding(server_model::specs::StatementResults::tells))]
 pub fn tells(
     alloc: Global,
@@ -113,9 +113,10 @@ pub fn tells(
     requires well_formed { IsWellFormedTable seen.now }
     requires sound { IsSound seen.now.schema.columns found.work }
     requires met { found.met ≡ met_by seen.now.schema seen.now.rows found.work }
+    requires made { found.made ≡ made_by found.work found.met }
     ensures { IfOk result (λ executed. as_result executed ≡ tells seen.now.schema seen.now.rows found.work) }
 {
-    let FoundWork { work, met } = found;
+    let FoundWork { work, met, made } = found;
     match &work {
         Work::Refuse(refusal) => Ok(only(alloc, refusal.copy()?)),
         Work::Insert(row) => insert(alloc, seen, row),
@@ -123,7 +124,13 @@ pub fn tells(
         Work::Replace(row) => replace(alloc, row, met),
         Work::Delete(_) => delete(alloc, met),
         Work::Update { sets, .. } => match sets {
-            Ok(sets) => updated(alloc, seen, sets.as_slice(), met.as_slice()),
+            Ok(sets) => updated(
+                alloc,
+                seen,
+                sets.as_slice(),
+                met.as_slice(),
+                made.as_slice(),
+            ),
             Err(at) => Ok(updated_unfit(alloc, *at, met.as_slice())),
         },
         Work::Select { reach, selection } => select(alloc, seen, reach, selection),

@@ -2,7 +2,5 @@
 
 mod locks;
 mod need_lists;
-mod settings;
 
 pub use need_lists::needs;
-pub use settings::with_sets;

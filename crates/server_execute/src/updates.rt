@@ -1,13 +1,14 @@
-//! What an UPDATE says: its rows change one by one, each seen as the changes before have left the table.
+//! What an UPDATE says: its rows change one by one, each seen as the changes before have left the table. Their new rows are made
+//! before: the values that the columns are set to (`sets`) are passed on for the contracts alone.
 
-ghost use Rattle.std.specs.Prelude.{◌≡◌, ◌++◌, ◌∷◌, [], not, true, List, Err, IfOk, OnOk};
+ghost use Rattle.std.specs.Prelude.{◌≡◌, ◌++◌, ◌∷◌, [], map, not, true, List, Err, IfOk, OnOk};
 ghost use Rattle.std.specs.List.{list_any};
 ghost use Rattle.base_values.specs.declared.value.Value.{Value};
 ghost use Rattle.base_values.specs.declared.gho_schema.schema.Schema.{Schema};
 ghost use Rattle.base_values.specs.GhoSchema.Rows.{key_places};
 ghost use Rattle.base_values.specs.declared.event.Change.TheVariants as changes;
 ghost use Rattle.server_model.specs.Rows.{same_row, stands};
-ghost use Rattle.server_model.specs.StatementResults.{clashes_besides, updates, result_or_refusal, updated};
+ghost use Rattle.server_model.specs.StatementResults.{clashes_besides, with_sets, updates, result_or_refusal, updated};
 ghost use Rattle.server_model.specs.LockedRows.Coverage.{IsWellFormedTable, SetsFit};
 ghost use Rattle.server_execute.specs.ReadyResult.{as_result};
 ghost use Rattle.server_execute.specs.RowUpdates.{row_update, AreMet};
@@ -15,7 +16,6 @@ ghost use Rattle.server_seen.specs.Written.{wrote};
 ghost use Rattle.server_seen.specs.Written as writes;
 
 use crate::change_lists::{Changes, ReadyResult, only};
-use crate::statement_work::with_sets;
 use base_values::gho_schema::key_of;
 use base_values::mysql_errors::ER_DUP_ENTRY;
 use base_values::row_conversion::UnfitAt;
@@ -27,14 +27,14 @@ use std::alloc::{AllocError, Global};
 use table_store::paged_tables::row_pages::Table;
 
 /// What an UPDATE makes of one row.
-#[derive(Drop)]
+#[derive(Clone, Copy)]
 pub enum RowUpdate {
     /// It stays as it is.
     Same,
     /// Its new row clashes with another one.
     Clashes,
-    /// It becomes this row.
-    Becomes(Row),
+    /// It becomes its new row.
+    Becomes,
 }
 
 /// Whether one of the rows is another than this one.
@@ -97,20 +97,19 @@ fn row_update(
     alloc: Global,
     seen: &SeenTable<'_>,
     written: &WrittenRows,
-    sets: &[Option<Value>],
     old: &Row,
+    new: &Row,
 ) -> Result<RowUpdate, AllocError>
     requires { written.now.schema ≡ seen.now.schema }
-    ensures { IfOk result (λ update. update ≡ row_update seen.now.schema sets.now (writes.seen (key_places seen.now.schema) written.now.written seen.now.rows) old.now) }
+    ensures { IfOk result (λ update. update ≡ row_update seen.now.schema old.now new.now (writes.seen (key_places seen.now.schema) written.now.written seen.now.rows)) }
 {
-    let new = with_sets(alloc, sets, old.as_slice())?;
-    if old.cmp(&new).is_eq() {
+    if old.cmp(new).is_eq() {
         return Ok(RowUpdate::Same);
     }
-    if clashes_besides(alloc, seen, written, &new, old)? {
+    if clashes_besides(alloc, seen, written, new, old)? {
         return Ok(RowUpdate::Clashes);
     }
-    Ok(RowUpdate::Becomes(new))
+    Ok(RowUpdate::Becomes)
 }
 
 /// Writes a row's change down, and adds it to those before.
@@ -119,13 +118,13 @@ fn push_change(
     written: &mut WrittenRows,
     all: &mut Changes,
     old: &Row,
-    new: Row,
+    new: &Row,
 ) -> Result<(), AllocError>
     ensures schema { written.new.schema ≡ written.old.schema }
-    ensures written { OnOk result (written.new.written ≡ wrote (key_places written.old.schema) (changes.Update old.now new) written.old.written) }
-    ensures all { OnOk result (all.new ≡ all.old ++ changes.Update old.now new ∷ []) }
+    ensures written { OnOk result (written.new.written ≡ wrote (key_places written.old.schema) (changes.Update old.now new.now) written.old.written) }
+    ensures all { OnOk result (all.new ≡ all.old ++ changes.Update old.now new.now ∷ []) }
 {
-    let change = Change::Update(old.copy()?, new);
+    let change = Change::Update(old.copy()?, new.copy()?);
     written.write(alloc, &change)?;
     all.push(change)
 }
@@ -136,19 +135,22 @@ fn updates(
     seen: &SeenTable<'_>,
     sets: &[Option<Value>],
     met: &[Row],
+    made: &[Row],
 ) -> Result<Checked<Changes>, AllocError>
     requires well_formed { IsWellFormedTable seen.now }
     requires sets { SetsFit seen.now.schema.columns sets.now }
     requires met { AreMet (key_places seen.now.schema) met.now seen.now.rows }
+    requires made { made.now ≡ map (with_sets sets.now) met.now }
     ensures { IfOk result (λ all. all ≡ updates seen.now.schema sets.now met.now seen.now.rows) }
 {
     let mut all = Sequence::new(alloc);
     let mut written = WrittenRows::new(alloc, seen.schema())?;
-    for old in met {
-        match row_update(alloc, seen, &written, sets, old)? {
+    for (place, old) in met.iter().enumerate() {
+        let new = &made[place];
+        match row_update(alloc, seen, &written, old, new)? {
             RowUpdate::Same => {}
             RowUpdate::Clashes => return Ok(Err(refuses(ER_DUP_ENTRY))),
-            RowUpdate::Becomes(new) => push_change(alloc, &mut written, &mut all, old, new)?,
+            RowUpdate::Becomes => push_change(alloc, &mut written, &mut all, old, new)?,
         }
     }
     Ok(Ok(all))
@@ -162,19 +164,20 @@ fn update_of_one(
     seen: &SeenTable<'_>,
     sets: &[Option<Value>],
     old: &Row,
+    new: &Row,
 ) -> Result<Checked<Changes>, AllocError>
-    requires { stands old.now seen.now.rows ≡ true }
+    requires stands { stands old.now seen.now.rows ≡ true }
+    requires made { new.now ≡ with_sets sets.now old.now }
     ensures { IfOk result (λ all. all ≡ updates seen.now.schema sets.now (old.now ∷ []) seen.now.rows) }
 {
     let mut all = Sequence::new(alloc);
-    let new = with_sets(alloc, sets, old.as_slice())?;
-    if old.cmp(&new).is_eq() {
+    if old.cmp(new).is_eq() {
         return Ok(Ok(all));
     }
-    if clashes_at_first(alloc, seen, &new, old)? {
+    if clashes_at_first(alloc, seen, new, old)? {
         return Ok(Err(refuses(ER_DUP_ENTRY)));
     }
-    all.push(Change::Update(old.copy()?, new))?;
+    all.push(Change::Update(old.copy()?, new.copy()?))?;
     Ok(Ok(all))
 }
 
@@ -197,15 +200,17 @@ pub fn updated(
     seen: &SeenTable<'_>,
     sets: &[Option<Value>],
     met: &[Row],
+    made: &[Row],
 ) -> Result<ReadyResult, AllocError>
     requires well_formed { IsWellFormedTable seen.now }
     requires sets { SetsFit seen.now.schema.columns sets.now }
     requires met { AreMet (key_places seen.now.schema) met.now seen.now.rows }
+    requires made { made.now ≡ map (with_sets sets.now) met.now }
     ensures { IfOk result (λ executed. as_result executed ≡ result_or_refusal (updates seen.now.schema sets.now met.now seen.now.rows)) }
 {
     let changes = match met {
-        [old] => update_of_one(alloc, seen, sets, old)?,
-        met => updates(alloc, seen, sets, met)?,
+        [old] => update_of_one(alloc, seen, sets, old, &made[0])?,
+        met => updates(alloc, seen, sets, met, made)?,
     };
     Ok(result_or_refusal(alloc, changes))
 }

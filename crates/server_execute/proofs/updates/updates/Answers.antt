@@ -6,15 +6,17 @@ use Rattle.base_values.specs.declared.event.Change.{Change}
 use Rattle.base_values.specs.declared.event.Change.TheVariants as changes
 use Rattle.table_store.proofs.Orders.{Row}
 use Rattle.server_model.specs.declared.answer.Answer.{Answer}
-use Rattle.server_seen.specs.Written.{wrote}
+use Rattle.server_model.specs.StatementResults.{with_sets}
+use Rattle.server_seen.specs.Written.{seen, wrote}
 use Rattle.server_seen.specs.Stored.{StoredWrites}
 use Rattle.server_seen.specs.FittingChanges.{IsWritten}
-use Rattle.server_execute.proofs.UpdatedRows.{IsGoing, begins, ends, clashes, stays, becomes, going_as, next_met}
+use Rattle.server_execute.specs.RowUpdates.{row_update}
+use Rattle.server_execute.proofs.UpdatedRows.{IsGoing, begins, ends, clashes, stays, becomes, going_as, next_met, made_at}
 use Rattle.server_execute.proofs.updates.updates.Goals as goal
 use Rattle.server_execute.proofs.updates.updates.Goals.{in-Same, in-Becomes+in_ok-push_change-in-Becomes}
 
-pub loop-old-init : goal.loop-old-init
-loop-old-init c =
+pub loop-place-init : goal.loop-place-init
+loop-place-init c =
     let table = c.args.seen.now in
     let written = c.in_ok-written.written.written in
     record {
@@ -26,35 +28,41 @@ loop-old-init c =
 pub returns-in-Clashes : goal.returns-in-Clashes
 returns-in-Clashes c =
     let table = c.args.seen.now in
-    let old = c.old-item.result in
-    let left = drop (c.loop-old.old-index + 1) c.args.met.now in
-    let step : drop c.loop-old.old-index c.args.met.now ≡ c.old-item.result ∷ drop (c.loop-old.old-index + 1) c.args.met.now = next_met c.args.met.now c.loop-old.old-index c.old-item.result c.loop-old-test.true c.old-item.is in
-    let going : IsGoing c.args.seen.now.schema c.args.sets.now c.args.met.now c.args.seen.now.rows c.loop-old.written.written c.loop-old.all (c.old-item.result ∷ drop (c.loop-old.old-index + 1) c.args.met.now) =
-    subst (IsGoing table.schema c.args.sets.now c.args.met.now table.rows c.loop-old.written.written c.loop-old.all) step c.loop-old.invariant.going in
+    let old = c.index-met-place.result in
+    let now : List Row = seen (key_places table.schema) c.loop-place.written.written table.rows in
+    let new : c.index-made-place.result ≡ with_sets c.args.sets.now c.index-met-place.result =
+    made_at c.args.sets.now c.args.met.now c.args.made.now c.loop-place.place c.index-met-place.result c.index-made-place.result c.requires.made c.loop-place-test.true c.index-met-place.is c.index-made-place.is in
+    let left = drop (c.loop-place.place + 1) c.args.met.now in
+    let step : drop c.loop-place.place c.args.met.now ≡ c.index-met-place.result ∷ drop (c.loop-place.place + 1) c.args.met.now = next_met c.args.met.now c.loop-place.place c.index-met-place.result c.loop-place-test.true c.index-met-place.is in
+    let going : IsGoing c.args.seen.now.schema c.args.sets.now c.args.met.now c.args.seen.now.rows c.loop-place.written.written c.loop-place.all (c.index-met-place.result ∷ drop (c.loop-place.place + 1) c.args.met.now) =
+    subst (IsGoing table.schema c.args.sets.now c.args.met.now table.rows c.loop-place.written.written c.loop-place.all) step c.loop-place.invariant.going in
     ap {B = Result (List Change) Answer} Err c.refuses.ensures
-    ∙ clashes table.schema c.args.sets.now c.args.met.now table.rows c.loop-old.written.written c.loop-old.all old left going (sym c.in-Clashes.is ∙ c.in_ok-row_update.ensures)
+    ∙ clashes table.schema c.args.sets.now c.args.met.now table.rows c.loop-place.written.written c.loop-place.all old left going (sym c.in-Clashes.is ∙ c.in_ok-row_update.ensures ∙ ap (λ (n : Row). row_update table.schema old n now) new)
 
-pub loop-old-preserved : goal.loop-old-preserved
-loop-old-preserved c =
+pub loop-place-preserved : goal.loop-place-preserved
+loop-place-preserved c =
     let table = c.args.seen.now in
-    let old = c.old-item.result in
-    let left = drop (c.loop-old.old-index + 1) c.args.met.now in
-    let step : drop c.loop-old.old-index c.args.met.now ≡ c.old-item.result ∷ drop (c.loop-old.old-index + 1) c.args.met.now = next_met c.args.met.now c.loop-old.old-index c.old-item.result c.loop-old-test.true c.old-item.is in
-    let going : IsGoing c.args.seen.now.schema c.args.sets.now c.args.met.now c.args.seen.now.rows c.loop-old.written.written c.loop-old.all (c.old-item.result ∷ drop (c.loop-old.old-index + 1) c.args.met.now) =
-    subst (IsGoing table.schema c.args.sets.now c.args.met.now table.rows c.loop-old.written.written c.loop-old.all) step c.loop-old.invariant.going in
-    let was : IsWritten (key_places c.loop-old.written.schema) c.loop-old.written.written = rw (← c.written.view_is) c.written.invariant.is_written in
-    let is_written : IsWritten (key_places c.args.seen.now.schema) c.loop-old.written.written = subst (λ (s : Schema). IsWritten (key_places s) c.loop-old.written.written) c.loop-old.invariant.schema was in
+    let old = c.index-met-place.result in
+    let now : List Row = seen (key_places table.schema) c.loop-place.written.written table.rows in
+    let new : c.index-made-place.result ≡ with_sets c.args.sets.now c.index-met-place.result =
+    made_at c.args.sets.now c.args.met.now c.args.made.now c.loop-place.place c.index-met-place.result c.index-made-place.result c.requires.made c.loop-place-test.true c.index-met-place.is c.index-made-place.is in
+    let left = drop (c.loop-place.place + 1) c.args.met.now in
+    let step : drop c.loop-place.place c.args.met.now ≡ c.index-met-place.result ∷ drop (c.loop-place.place + 1) c.args.met.now = next_met c.args.met.now c.loop-place.place c.index-met-place.result c.loop-place-test.true c.index-met-place.is in
+    let going : IsGoing c.args.seen.now.schema c.args.sets.now c.args.met.now c.args.seen.now.rows c.loop-place.written.written c.loop-place.all (c.index-met-place.result ∷ drop (c.loop-place.place + 1) c.args.met.now) =
+    subst (IsGoing table.schema c.args.sets.now c.args.met.now table.rows c.loop-place.written.written c.loop-place.all) step c.loop-place.invariant.going in
+    let was : IsWritten (key_places c.loop-place.written.schema) c.loop-place.written.written = rw (← c.written.view_is) c.written.invariant.is_written in
+    let is_written : IsWritten (key_places c.args.seen.now.schema) c.loop-place.written.written = subst (λ (s : Schema). IsWritten (key_places s) c.loop-place.written.written) c.loop-place.invariant.schema was in
     elim c.match-branch-3.branch [
       | in-Same w ↦ record {
-        schema = ap (λ (x : StoredWrites). x.schema) w.written-is ∙ c.loop-old.invariant.schema;
-        going = going_as table.schema c.args.sets.now c.args.met.now table.rows c.loop-old.written.written c.match-branch-3.written.written c.loop-old.all c.match-branch-3.all left left (ap (λ (x : StoredWrites). x.written) w.written-is) w.all-is refl
-            (stays table.schema c.args.sets.now c.args.met.now table.rows c.loop-old.written.written c.loop-old.all old left going (sym w.in-Same.is ∙ c.in_ok-row_update.ensures));
+        schema = ap (λ (x : StoredWrites). x.schema) w.written-is ∙ c.loop-place.invariant.schema;
+        going = going_as table.schema c.args.sets.now c.args.met.now table.rows c.loop-place.written.written c.match-branch-3.written.written c.loop-place.all c.match-branch-3.all left left (ap (λ (x : StoredWrites). x.written) w.written-is) w.all-is refl
+            (stays table.schema c.args.sets.now c.args.met.now table.rows c.loop-place.written.written c.loop-place.all old left going (sym w.in-Same.is ∙ c.in_ok-row_update.ensures ∙ ap (λ (n : Row). row_update table.schema old n now) new));
       }
       | in-Becomes+in_ok-push_change-in-Becomes w ↦ record {
-        schema = ap (λ (x : StoredWrites). x.schema) w.written-is ∙ w.push_change.ensures.schema ∙ c.loop-old.invariant.schema;
-        going = becomes table.schema c.requires.well_formed.keyed c.args.sets.now c.requires.sets c.args.met.now table.rows c.loop-old.written.written c.match-branch-3.written.written c.loop-old.all c.match-branch-3.all old w.in-Becomes.new left going is_written
-            c.schema.ensures.ascends (sym w.in-Becomes.is ∙ c.in_ok-row_update.ensures)
-            (ap (λ (x : StoredWrites). x.written) w.written-is ∙ w.in_ok-push_change-in-Becomes.ensures.written ∙ ap (λ (s : Schema). wrote (key_places s) (changes.Update old w.in-Becomes.new) c.loop-old.written.written) c.loop-old.invariant.schema)
+        schema = ap (λ (x : StoredWrites). x.schema) w.written-is ∙ w.push_change.ensures.schema ∙ c.loop-place.invariant.schema;
+        going = becomes table.schema c.requires.well_formed.keyed c.args.sets.now c.requires.sets c.args.met.now table.rows c.loop-place.written.written c.match-branch-3.written.written c.loop-place.all c.match-branch-3.all old c.index-made-place.result left going is_written
+            c.schema.ensures.ascends new (sym w.in-Becomes.is ∙ c.in_ok-row_update.ensures ∙ ap (λ (n : Row). row_update table.schema old n now) new)
+            (ap (λ (x : StoredWrites). x.written) w.written-is ∙ w.in_ok-push_change-in-Becomes.ensures.written ∙ ap (λ (s : Schema). wrote (key_places s) (changes.Update old c.index-made-place.result) c.loop-place.written.written) c.loop-place.invariant.schema)
             (w.all-is ∙ w.in_ok-push_change-in-Becomes.ensures.all);
       }
     ]
@@ -62,6 +70,6 @@ loop-old-preserved c =
 pub returns : goal.returns
 returns c =
     let table = c.args.seen.now in
-    let end : drop c.loop-old.old-index c.args.met.now ≡ [] = at_drop_all (λ (rows : List Row). rows) c.args.met.now c.loop-old.old-index c.loop-old-test.false in
-    ends table.schema c.args.sets.now c.args.met.now table.rows c.loop-old.written.written c.loop-old.all
-    (subst (IsGoing table.schema c.args.sets.now c.args.met.now table.rows c.loop-old.written.written c.loop-old.all) end c.loop-old.invariant.going)
+    let end : drop c.loop-place.place c.args.met.now ≡ [] = at_drop_all (λ (rows : List Row). rows) c.args.met.now c.loop-place.place c.loop-place-test.false in
+    ends table.schema c.args.sets.now c.args.met.now table.rows c.loop-place.written.written c.loop-place.all
+    (subst (IsGoing table.schema c.args.sets.now c.args.met.now table.rows c.loop-place.written.written c.loop-place.all) end c.loop-place.invariant.going)

@@ -1,9 +1,12 @@
 //! The new rows of an UPDATE.
 
 ghost use Rattle.std.specs.Prelude.{◌≡◌, map, unwrap_or, IfOk};
+ghost use Rattle.server_model.specs.Needs.{new_rows};
 ghost use Rattle.server_model.specs.StatementResults.{with_sets};
 
+use base_values::row_conversion::UnfitAt;
 use base_values::{Duplicate, Row, Rows, Sequence, Shared, Value};
+use server_model::ColumnSets;
 use std::alloc::{AllocError, Global};
 
 /// A copy of what the column is set to, or else of the value that it has.
@@ -18,7 +21,7 @@ fn set_or(set: &Option<Value>, value: &Value) -> Result<Value, AllocError>
 
 /// A copy of the row with its columns set to these values, where there are such.
 #[tactic(auto, using(server_model::proofs::LockedRows::Sets::with_sets_more, crate::proofs::StatementWork::Pieces::with_no_sets), unfolding(server_model::specs::StatementResults::with_sets))]
-pub fn with_sets(alloc: Global, sets: &[Option<Value>], row: &[Value]) -> Result<Row, AllocError>
+fn with_sets(alloc: Global, sets: &[Option<Value>], row: &[Value]) -> Result<Row, AllocError>
     ensures { IfOk result (λ new. new ≡ with_sets sets.now row.now) }
 {
     let mut new = Sequence::new(alloc);
@@ -35,11 +38,7 @@ pub fn with_sets(alloc: Global, sets: &[Option<Value>], row: &[Value]) -> Result
 }
 
 /// The new rows.
-pub fn all_with_sets(
-    alloc: Global,
-    sets: &[Option<Value>],
-    rows: &[Row],
-) -> Result<Rows, AllocError>
+fn all_with_sets(alloc: Global, sets: &[Option<Value>], rows: &[Row]) -> Result<Rows, AllocError>
     ensures { IfOk result (λ new. new ≡ map (with_sets sets.now) rows.now) }
 {
     let mut all = Sequence::new(alloc);
@@ -47,4 +46,18 @@ pub fn all_with_sets(
         all.push(with_sets(alloc, sets, row.as_slice())?)?;
     }
     Ok(all)
+}
+
+/// The new rows, where the values store.
+pub fn new_rows(
+    alloc: Global,
+    sets: &Result<ColumnSets, UnfitAt>,
+    rows: &[Row],
+) -> Result<Rows, AllocError>
+    ensures { IfOk result (λ new. new ≡ new_rows sets.now rows.now) }
+{
+    match sets {
+        Ok(sets) => all_with_sets(alloc, sets.as_slice(), rows),
+        Err(_) => Ok(Sequence::new(alloc)),
+    }
 }

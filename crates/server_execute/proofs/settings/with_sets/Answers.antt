@@ -4,7 +4,7 @@ use Rattle.std.proofs.lemmas.List.{at_drop_all}
 use Rattle.table_store.proofs.Orders.{Row}
 use Rattle.server_model.specs.StatementResults.{with_sets}
 use Rattle.server_model.proofs.LockedRows.Sets.{with_sets_none}
-use Rattle.server_execute.proofs.statement_work.settings.with_sets.Goals as goal
+use Rattle.server_execute.proofs.settings.with_sets.Goals as goal
 
 pub returns : goal.returns
 returns c =

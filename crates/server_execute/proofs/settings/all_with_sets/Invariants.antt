@@ -1,6 +1,6 @@
 use Rattle.std.proofs.Common.{◌≡◌, map, take}
 use Rattle.server_model.specs.StatementResults.{with_sets}
-use Rattle.server_execute.proofs.statement_work.settings.all_with_sets.Given as goal
+use Rattle.server_execute.proofs.settings.all_with_sets.Given as goal
 
 -- the new rows so far
 abbrev pub invariant-loop-row : goal.invariant-loop-row
