@@ -12,7 +12,7 @@ use Rattle.server_model.specs.StatementResults.{tells}
 use Rattle.server_model.specs.Operations.{Operation, after_events, needs_in, operation_needs, operation_result, result_in, result_of}
 use Rattle.server_model.specs.LockedRows.Coverage.{IsSound}
 use Rattle.server_model.specs.LockedRows.Databases.{TaskSound, WhereFound}
-use Rattle.server_execute.specs.FoundWork.{found_in, met_by}
+use Rattle.server_execute.specs.FoundWork.{found_in, made_by, met_by}
 use Rattle.server_execute.specs.declared.found_work.FoundWork.{FoundWork}
 use Rattle.server_transaction.specs.Stored.{TableChanges}
 use Rattle.server_transaction.specs.Premises.{HasSchema}
@@ -66,11 +66,17 @@ gives_there seen name found table there = ap (λ (n : List ℕ). result_of n (te
 pub sound_there : (seen : Database) (name : List ℕ) (found : FoundWork) (table : TableRows) → Some table ≡ find_table name seen → IsSoundWork seen name (Some found) → IsSound table.schema.columns found.work
 sound_there seen name found table there sound = subst (WhereFound (λ (t : TableRows). IsSound t.schema.columns found.work)) (sym there) sound.sound
 
-pub met_there : (seen : Database) (name : List ℕ) (found : FoundWork) (table : TableRows) → Some table ≡ find_table name seen → IsSoundWork seen name (Some found) → found.met ≡ met_by table.schema table.rows found.work
-met_there seen name found table there sound =
+found_there : (seen : Database) (name : List ℕ) (found : FoundWork) (table : TableRows) → Some table ≡ find_table name seen → IsSoundWork seen name (Some found) → found ≡ found_in table found.work
+found_there seen name found table there sound =
     let both : Some found ≡ Some (found_in table found.work) = sound.work_is ∙ ap (work_in (known name found.work)) (sym there) in
-    let same : found ≡ found_in table found.work = cc in
-    ap (λ (f : FoundWork). f.met) same
+    cc
+
+pub met_there : (seen : Database) (name : List ℕ) (found : FoundWork) (table : TableRows) → Some table ≡ find_table name seen → IsSoundWork seen name (Some found) → found.met ≡ met_by table.schema table.rows found.work
+met_there seen name found table there sound = ap (λ (f : FoundWork). f.met) (found_there seen name found table there sound)
+
+pub made_there : (seen : Database) (name : List ℕ) (found : FoundWork) (table : TableRows) → Some table ≡ find_table name seen → IsSoundWork seen name (Some found) → found.made ≡ made_by found.work found.met
+made_there seen name found table there sound =
+    ap (λ (f : FoundWork). f.made) (found_there seen name found table there sound) ∙ sym (ap (made_by found.work) (met_there seen name found table there sound))
 
 -- what is written has the schema of a table that stands
 pub writes_stand : (tables : Database) (events : List RowEvent) (name : List ℕ) (table : TableRows) → Some table ≡ find_table name (after_events tables events) → (writes : Option TableChanges) → IfSome writes (λ one. one.schema ≡ table.schema) → IfSome writes (λ one. HasSchema tables one.schema)

@@ -7,7 +7,7 @@ ghost use Rattle.server_model.specs.Needs.{needs};
 ghost use Rattle.server_model.specs.Operations.{table_of, events_of, result_of, operation_of, after_events};
 ghost use Rattle.server_model.specs.StatementResults.{tells};
 ghost use Rattle.server_model.specs.LockedRows.Coverage.{IsWellFormedTable, IsSound};
-ghost use Rattle.server_execute.specs.FoundWork.{found_in, met_by};
+ghost use Rattle.server_execute.specs.FoundWork.{found_in, made_by, met_by};
 ghost use Rattle.server_transaction.specs.Premises.{HasSchema, IsOf, events_ready};
 ghost use Rattle.server_transaction.specs.Prepared.{IsPrepared, IsSoundWork, IsWorkOf, work_result};
 
@@ -104,6 +104,7 @@ fn tell(alloc: Global, seen: &SeenTable<'_>, found: FoundWork) -> Result<ReadyRe
     requires well_formed { IsWellFormedTable seen.now }
     requires sound { IsSound seen.now.schema.columns found.work }
     requires met { found.met ≡ met_by seen.now.schema seen.now.rows found.work }
+    requires made { found.made ≡ made_by found.work found.met }
     ensures answer { IfOk result (λ executed. executed.answer ≡ (result_of seen.now.schema.name (tells seen.now.schema seen.now.rows found.work)).answer) }
     ensures events { IfOk result (λ executed. events_ready executed.writes ≡ (result_of seen.now.schema.name (tells seen.now.schema seen.now.rows found.work)).events) }
     ensures schema { IfOk result (λ executed. IfSome executed.writes (λ one. one.schema ≡ seen.now.schema)) }

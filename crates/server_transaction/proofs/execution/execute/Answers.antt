@@ -6,7 +6,7 @@ use Rattle.server_model.specs.declared.work.StatementResult.{StatementResult}
 use Rattle.server_model.specs.Operations.{after_events}
 use Rattle.server_transaction.specs.Premises.{events_ready}
 use Rattle.server_transaction.specs.Stored.{TableChanges}
-use Rattle.server_transaction.proofs.PreparedWork.{gives_missing, gives_there, met_there, sound_there, writes_stand}
+use Rattle.server_transaction.proofs.PreparedWork.{gives_missing, gives_there, made_there, met_there, sound_there, writes_stand}
 use Rattle.server_transaction.proofs.execution.execute.Goals as goal
 
 pub tell-requires-clause-sound : goal.tell-requires-clause-sound
@@ -18,6 +18,11 @@ pub tell-requires-clause-met : goal.tell-requires-clause-met
 tell-requires-clause-met c =
     let tables : Database = after_events (database c.args.tables.now) c.args.txn.now.events in
     met_there tables c.args.name.now c.in-Some.found c.in-Some-seen_table.seen c.in-Some-seen_table.ensures (rw c.in-Some.is at c.requires.sound)
+
+pub tell-requires-clause-made : goal.tell-requires-clause-made
+tell-requires-clause-made c =
+    let tables : Database = after_events (database c.args.tables.now) c.args.txn.now.events in
+    made_there tables c.args.name.now c.in-Some.found c.in-Some-seen_table.seen c.in-Some-seen_table.ensures (rw c.in-Some.is at c.requires.sound)
 
 pub returns-in-Some-seen_table-clause-answer : goal.returns-in-Some-seen_table-clause-answer
 returns-in-Some-seen_table-clause-answer c =
