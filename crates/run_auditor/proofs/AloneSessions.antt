@@ -4,7 +4,6 @@ use Rattle.std.specs.Prelude.{◌==◌}
 use Rattle.base_values.specs.declared.event.RowEvent.{RowEvent}
 use Rattle.base_script.specs.declared.statement.Statement.{Statement}
 use Rattle.table_store.specs.Databases.{Database}
-use Rattle.server_model.specs.declared.work.StatementResult.{StatementResult}
 use Rattle.server_model.specs.declared.transaction.TxnLine.{TxnLine}
 use Rattle.server_model.specs.Alone.{Ran, alone, lines_run, nothing_ran, outcome_if, stays}
 use Rattle.server_model.specs.Operations.{after_events, operation_of, statement_result, table_of}

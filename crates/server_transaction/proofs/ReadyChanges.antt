@@ -1,9 +1,8 @@
 -- What changes write that were made ready, and the keys that they have.
-use Rattle.std.proofs.Common.{◌≡◌, ℕ, ◌+◌, ◌≤◌, List, [], ◌∷◌, ◌++◌, length, map, drop, Option, refl, sym, ap, ◌∙◌, subst, arith}
+use Rattle.std.proofs.Common.{◌≡◌, ℕ, List, [], ◌∷◌, map, Option, refl, sym, ap, ◌∙◌, subst}
 use Rattle.std.specs.List.{AllByRecursion}
 use Rattle.base_values.specs.declared.event.Change.{Change}
 use Rattle.base_values.specs.declared.event.Change.TheVariants.{Write, Update, Delete}
-use Rattle.base_values.specs.GhoSchema.Rows.{key_of}
 use Rattle.table_store.proofs.Orders.{Row}
 use Rattle.server_seen.specs.Written.{Written, wrote, wrote_all}
 use Rattle.server_seen.proofs.KeyTables.{length_key}

@@ -1,5 +1,5 @@
 -- What a session's transaction keeps of the tables behind CREATE, DROP and RENAME of tables to which it didn't write.
-use Rattle.std.proofs.Common.{◌≡◌, ℕ, Bool, true, false, ◌||◌, List, [], ◌∷◌, ◌++◌, map, filter, cond, Option, Some, None, Ok, refl, sym, ap, ◌∙◌, subst}
+use Rattle.std.proofs.Common.{◌≡◌, ℕ, Bool, true, false, ◌||◌, List, [], ◌∷◌, ◌++◌, map, filter, cond, Option, Some, None, refl, sym, ap, ◌∙◌, subst}
 use Rattle.std.specs.Option.{option_map}
 use Rattle.std.specs.List.{AllByRecursion, list_any}
 use Rattle.std.specs.Str.{bytes_eq}
@@ -7,8 +7,7 @@ use Rattle.std.proofs.lemmas.Bool.{false≢true}
 use Rattle.base_values.specs.declared.gho_schema.schema.Schema.{Schema}
 use Rattle.base_values.specs.declared.event.Change.{Change}
 use Rattle.base_values.specs.declared.event.RowEvent.{RowEvent}
-use Rattle.table_store.specs.Databases.{TableRows, Database, find_table, with_change, without_table, rename_tables}
-use Rattle.table_store.specs.declared.renames.Pair.{Pair}
+use Rattle.table_store.specs.Databases.{TableRows, Database, find_table, with_change, without_table}
 use Rattle.server_model.specs.Operations.{change_table, after_events}
 use Rattle.server_model.specs.Rows.{change_all}
 use Rattle.server_model.specs.States.{pair_names}
@@ -22,7 +21,7 @@ use Rattle.server_transaction.specs.Events.{changes_in}
 use Rattle.server_transaction.specs.Premises.{HasSchema, IsOf}
 use Rattle.server_transaction.specs.Stored.{StoredTxn, schemas}
 use Rattle.server_transaction.proofs.Views.{changed, found_changed}
-use Rattle.server_storage.specs.KeptTxns.Transactions.{HasEvents, TransactionsOutlastCreations, TransactionsOutlastDrops, TransactionsOutlastRenames}
+use Rattle.server_storage.specs.KeptTxns.Transactions.{TransactionsOutlastCreations, TransactionsOutlastDrops, TransactionsOutlastRenames}
 
 -- the tables but those of these names are found as before
 abbrev Others : List (List ℕ) → Database → Database → Type 0

@@ -1,16 +1,15 @@
-use Rattle.std.proofs.Common.{rules, ◌≡◌, ◌∷◌, ◌++◌, ◌≤◌, [], List, Option, length, drop, ap, ◌∙◌, sym, subst, arith}
+use Rattle.std.proofs.Common.{rules, ◌≡◌, ◌∷◌, ◌++◌, ◌≤◌, [], List, length, drop, ap, ◌∙◌, sym, subst, arith}
 use Rattle.std.proofs.lemmas.Iterator.Adapters.{YieldsList-from_vec}
 use Rattle.std.proofs.lemmas.Iterator.Consumers.{YieldsList-turn, YieldsList-end}
 use Rattle.std.specs.List.{AllZip}
 use Rattle.std.specs.Vec.Iter.{into_iter_items}
 use Rattle.base_values.specs.declared.event.RowEvent.{RowEvent}
 use Rattle.table_store.specs.Databases.{database, spare_in}
-use Rattle.table_store.proofs.Orders.{Row}
 use Rattle.server_model.specs.Operations.{after_events}
 use Rattle.server_transaction.specs.FittingEvents.{EventsFit}
 use Rattle.server_transaction.specs.Premises.{IsGoneIn}
 use Rattle.server_transaction.specs.Rooms.{puts_in}
-use Rattle.server_transaction.proofs.Spares.{IsDone, one_done, IsNext, next_one, none_after, none_puts}
+use Rattle.server_transaction.proofs.Spares.{IsDone, one_done, next_one, none_after, none_puts}
 use Rattle.server_transaction.proofs.LeftItems.{next_is, none_left}
 use Rattle.server_transaction.proofs.commits.apply_all.Goals as goal
 

@@ -5,7 +5,6 @@ use Rattle.table_store.specs.Databases.{Database, database}
 use Rattle.server_model.specs.declared.work.StatementResult.{StatementResult}
 use Rattle.server_model.specs.Operations.{after_events}
 use Rattle.server_transaction.specs.Premises.{events_ready}
-use Rattle.server_transaction.specs.Stored.{TableChanges}
 use Rattle.server_transaction.proofs.PreparedWork.{gives_missing, gives_there, made_there, met_there, sound_there, writes_stand}
 use Rattle.server_transaction.proofs.execution.execute.Goals as goal
 
