@@ -1,3 +1,4 @@
+pub mod CopiedRows
 pub mod DoneEvents
 pub mod FoundTables
 pub mod GoneKeys

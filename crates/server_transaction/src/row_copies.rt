@@ -1,5 +1,6 @@
 //! A session copies a row, converted, from one table into another.
 
+mod columns;
 mod row_copy;
 mod work;
 
