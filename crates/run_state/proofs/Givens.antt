@@ -1,6 +1,6 @@
 -- What is given doesn't turn on the numbers of sessions that were made besides; and what comes next is what is given.
-use Rattle.std.proofs.Common.{◌≡◌, ℕ, false, List, Option, Some, None, refl, ap, ◌∙◌}
-use Rattle.std.specs.Prelude.{if◌then◌else◌, is_some}
+use Rattle.std.proofs.Common.{◌≡◌, ℕ, List, Option, Some, None, refl, ap, ◌∙◌}
+use Rattle.std.specs.Prelude.{if◌then◌else◌}
 use Rattle.std.specs.Option.{option_map}
 use Rattle.base_script.specs.declared.actor.Actor.{Actor}
 use Rattle.base_script.specs.declared.operator.OperatorWord.{OperatorWord}
@@ -16,9 +16,10 @@ use Rattle.plan_data.specs.PlanData.{PlanData}
 use Rattle.tool_program.specs.JournalWords.Sessions.{live_session}
 use Rattle.tool_program.specs.JournalWords.Clients.{word_asks}
 use Rattle.tool_program.specs.Tools.{Work, ToolPhase, SettingUp, Migrating, Tool, is_reverting, moment}
-use Rattle.tool_program.specs.Programs.{waits, in_transaction, rolls_back, copy_call, tool_call, tool_asks}
+use Rattle.tool_program.specs.Programs.{waits, rolls_back, copy_call, tool_call, tool_asks}
 use Rattle.tool_program.specs.Programs as programs
-use Rattle.tool_state.specs.Feeds.{read_in, starts}
+use Rattle.tool_state.specs.Feeds.{feed_call}
+use Rattle.tool_state.specs.declared.feed_call.FeedCall.TheVariants.{Free}
 use Rattle.tool_state.specs.NextCalls as calls
 use Rattle.tool_state.specs.declared.next_call.NextCall.{NextCall}
 use Rattle.run_actors.specs.ClientTurns.ClientCalls as clients
@@ -69,10 +70,6 @@ asks_is plan journal state tool actor following is =
 
 -- WHAT COMES NEXT
 
-pub mapped_some : {A B : Type 0} (f : A → B) (one : Option A) (other : Option B) → option_map f one ≡ other → is_some one ≡ is_some other
-mapped_some f None other is = ap is_some is
-mapped_some f (Some x) other is = ap is_some is
-
 module _ (plan : PlanData) (journal : List Entry) (work : Work) where
   pub client_asks_so : (call : Option ClientCall) (given : Option Asked) → option_map clients.asked_in call ≡ given → option_map (asked_in plan journal work) (option_map next.Client call) ≡ given
   client_asks_so None given is = is
@@ -82,40 +79,32 @@ module _ (plan : PlanData) (journal : List Entry) (work : Work) where
   tool_asks_so None given is = is
   tool_asks_so (Some call) given is = is
 
--- WHAT READS THE LOG OR BEGINS SOMETHING
+-- WHAT NO REPLICA HOLDS BACK
 
-pub client_reads : (call : ClientCall) → None ≡ read_in (Some (clients.asked_in call))
-client_reads Poll = refl
-client_reads (Line word) = by word.now where
-  by : (word : ScriptWord) → None ≡ read_in (Some (Call (word_asks word)))
-  by words.Begin = refl
-  by words.Commit = refl
-  by words.Rollback = refl
-  by (words.Do statement) = refl
+word_is_free : (actor : Actor) (word : ScriptWord) → Free ≡ feed_call actor (Call (word_asks word))
+word_is_free Copy words.Begin = refl
+word_is_free Copy words.Commit = refl
+word_is_free Copy words.Rollback = refl
+word_is_free Copy (words.Do statement) = refl
+word_is_free Apply words.Begin = refl
+word_is_free Apply words.Commit = refl
+word_is_free Apply words.Rollback = refl
+word_is_free Apply (words.Do statement) = refl
+word_is_free Lock words.Begin = refl
+word_is_free Lock words.Commit = refl
+word_is_free Lock words.Rollback = refl
+word_is_free Lock (words.Do statement) = refl
+word_is_free actor word = refl
 
-word_starts : (actor : Actor) (word : ScriptWord) → false ≡ starts actor (Some (Call (word_asks word)))
-word_starts Copy words.Begin = refl
-word_starts Copy words.Commit = refl
-word_starts Copy words.Rollback = refl
-word_starts Copy (words.Do statement) = refl
-word_starts Lock words.Begin = refl
-word_starts Lock words.Commit = refl
-word_starts Lock words.Rollback = refl
-word_starts Lock (words.Do statement) = refl
-word_starts actor word = refl
+pub client_is_free : (actor : Actor) (call : ClientCall) → Free ≡ feed_call actor (clients.asked_in call)
+client_is_free actor (Line word) = word_is_free actor word.now
+client_is_free Copy Poll = refl
+client_is_free Apply Poll = refl
+client_is_free Lock Poll = refl
+client_is_free actor Poll = refl
 
-pub client_starts : (actor : Actor) (call : ClientCall) → false ≡ starts actor (Some (clients.asked_in call))
-client_starts actor (Line word) = word_starts actor word.now
-client_starts Copy Poll = refl
-client_starts Lock Poll = refl
-client_starts actor Poll = refl
-
-pub command_starts : (actor : Actor) (word : OperatorWord) → false ≡ starts actor (Some (Command word))
-command_starts Copy word = refl
-command_starts Lock word = refl
-command_starts actor word = refl
-
-pub none_starts : (actor : Actor) → false ≡ starts actor None
-none_starts Copy = refl
-none_starts Lock = refl
-none_starts actor = refl
+pub command_is_free : (actor : Actor) (word : OperatorWord) → Free ≡ feed_call actor (Command word)
+command_is_free Copy word = refl
+command_is_free Apply word = refl
+command_is_free Lock word = refl
+command_is_free actor word = refl

@@ -1,11 +1,10 @@
 //! What an actor asks next: a small value, found without memory, of which what is asked is made.
 
-ghost use Rattle.std.specs.Prelude.{◌≡◌, Some, List};
+ghost use Rattle.std.specs.Prelude.{◌≡◌, List};
 ghost use Rattle.plan_data.specs.PlanData.{PlanData};
 ghost use Rattle.server_model.specs.declared.entry.Entry.{Entry};
 ghost use Rattle.server_model.specs.LostCalls.{lost_in};
-ghost use Rattle.tool_program.specs.Tools as program;
-ghost use Rattle.tool_state.specs.Feeds.{read_in, starts};
+ghost use Rattle.tool_state.specs.Feeds.{feed_call};
 ghost use Rattle.tool_state.specs.ToolState.Meanings.{work_of};
 ghost use Rattle.run_state.specs.NextAsked.{asked_in};
 
@@ -13,7 +12,7 @@ use base_script::{Actor, OperatorWord};
 use run_actors::client_turns::ClientCall;
 use server_model::{Entry, LostCall};
 use tool_state::tool_state::Work;
-use tool_state::{LogRead, NextCall};
+use tool_state::{FeedCall, NextCall};
 
 /// What an actor asks next.
 #[derive(Clone, Copy)]
@@ -38,25 +37,14 @@ impl NextAsked<'_> {
         }
     }
 
-    /// The read of the log that is asked; none where something else is.
-    #[tactic(auto, using(crate::proofs::Givens::client_reads))]
-    pub fn read(self, work: &Work) -> Option<LogRead>
-        ensures { (plan : PlanData) (journal : List Entry) → result ≡ read_in (Some (asked_in plan journal (work_of work.now) self.entry)) }
+    /// What it is for a replica that lags, where this actor asks it.
+    #[tactic(auto, using(crate::proofs::Givens::command_is_free, crate::proofs::Givens::client_is_free))]
+    pub fn feed_call(self, actor: Actor, work: &Work) -> FeedCall
+        ensures { (plan : PlanData) (journal : List Entry) → result ≡ feed_call actor (asked_in plan journal (work_of work.now) self.entry) }
     {
         match self {
-            NextAsked::Tool(call) => call.read(work),
-            NextAsked::Command(_) | NextAsked::Client(_) => None,
-        }
-    }
-
-    /// Whether the actor begins a chunk with it, or an attempt to cut over.
-    #[tactic(auto, using(crate::proofs::Givens::command_starts, crate::proofs::Givens::client_starts))]
-    pub fn starts(self, actor: Actor) -> bool
-        ensures { (plan : PlanData) (journal : List Entry) (work : program.Work) → result ≡ starts actor (Some (asked_in plan journal work self.entry)) }
-    {
-        match self {
-            NextAsked::Tool(call) => call.starts(actor),
-            NextAsked::Command(_) | NextAsked::Client(_) => false,
+            NextAsked::Tool(call) => call.feed_call(actor, work),
+            NextAsked::Command(_) | NextAsked::Client(_) => FeedCall::Free,
         }
     }
 }

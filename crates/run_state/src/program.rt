@@ -1,17 +1,15 @@
 //! What the actors ask next, and when the run is over.
 
 ghost use Rattle.std.specs.Prelude.{◌≡◌, Some, false, option_map, slice_get, IfOk, OnErr};
-ghost use Rattle.base_script.specs.declared.actor.Actor.TheVariants.{Apply};
 ghost use Rattle.server_model.specs.LostCalls.{lost_in};
 ghost use Rattle.tool_program.specs.FreeCalls.{is_freely_asked};
 ghost use Rattle.tool_program.specs.JournalWords.Clients.{clients_over};
 ghost use Rattle.tool_program.specs.JournalWords.KeptPlans.{words_of};
 ghost use Rattle.tool_program.specs.Tools.{moment};
 ghost use Rattle.tool_program.specs.Programs.{tool_asks, commands, given};
-ghost use Rattle.tool_program.specs.Orders.{is_ready};
 ghost use Rattle.tool_program.specs.Verdicts.{is_over, has_ended, verdict_of};
 ghost use Rattle.proof_journals.specs.Run.Counts.{IsAfter};
-ghost use Rattle.tool_state.specs.Feeds.{read_in, starts};
+ghost use Rattle.tool_state.specs.Feeds.{feed_call};
 ghost use Rattle.tool_state.specs.NextCalls.{asked_in};
 ghost use Rattle.tool_state.specs.ToolState.Meanings.{work_of};
 ghost use Rattle.tool_state.specs.Verdicts.{verdict_meant};
@@ -24,7 +22,7 @@ use base_script::Actor;
 use server_api::Serve;
 use server_model::{Asked, LostCall};
 use std::alloc::{AllocError, Global};
-use tool_state::{LogRead, NextCall, ToolView, VerdictView, is_over, verdict};
+use tool_state::{FeedCall, NextCall, ToolView, VerdictView, is_over, verdict};
 
 impl RunState<'_> {
     /// What an actor of the tool but the operator asks next.
@@ -93,38 +91,15 @@ impl RunState<'_> {
         next.lost(self.journal.as_slice(), &self.tool.work)
     }
 
-    /// Whether the actor is ready: something is given to it.
-    #[tactic(auto, using(crate::proofs::Givens::mapped_some))]
-    pub fn is_ready<V: Serve>(&self, server: &V, actor: Actor) -> bool
+    /// What the actor's next call is for a replica that lags; none where the actor isn't ready.
+    pub fn feed_call<V: Serve>(&self, server: &V, actor: Actor) -> Option<FeedCall>
         requires run_state { IsRunState self.now.plan.now self.now.journal.items self.now }
         requires state { IsAfter (moment self.now.plan.now self.now.journal.items).server (V.state server.now) }
-        ensures { result ≡ is_ready self.now.plan.now self.now.journal.items actor }
-    {
-        self.next(server, actor).is_some()
-    }
-
-    /// The read of the log that the applier asks next; none where it asks something else, or nothing.
-    pub fn reading<V: Serve>(&self, server: &V) -> Option<LogRead>
-        requires run_state { IsRunState self.now.plan.now self.now.journal.items self.now }
-        requires state { IsAfter (moment self.now.plan.now self.now.journal.items).server (V.state server.now) }
-        ensures { result ≡ read_in (given self.now.plan.now self.now.journal.items Apply) }
-    {
-        match self.next(server, Actor::Apply) {
-            Some(next) => next.read(&self.tool.work),
-            None => None,
-        }
-    }
-
-    /// Whether the actor's next call begins a chunk, or an attempt to cut over.
-    #[tactic(auto, using(crate::proofs::Givens::none_starts))]
-    pub fn starting<V: Serve>(&self, server: &V, actor: Actor) -> bool
-        requires run_state { IsRunState self.now.plan.now self.now.journal.items self.now }
-        requires state { IsAfter (moment self.now.plan.now self.now.journal.items).server (V.state server.now) }
-        ensures { result ≡ starts actor (given self.now.plan.now self.now.journal.items actor) }
+        ensures { result ≡ option_map (feed_call actor) (given self.now.plan.now self.now.journal.items actor) }
     {
         match self.next(server, actor) {
-            Some(next) => next.starts(actor),
-            None => false,
+            Some(next) => Some(next.feed_call(actor, &self.tool.work)),
+            None => None,
         }
     }
 

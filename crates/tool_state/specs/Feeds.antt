@@ -1,20 +1,17 @@
 -- Which calls a lagging replica may hold back: the applier's reads of the log, and those that begin a chunk or an attempt. (This
 -- project's rule.)
-use Rattle.std.specs.Prelude.{Bool, true, false, Option, Some, None}
 use Rattle.base_script.specs.declared.actor.Actor.{Actor}
-use Rattle.base_script.specs.declared.actor.Actor.TheVariants.{Copy, Lock}
+use Rattle.base_script.specs.declared.actor.Actor.TheVariants.{Copy, Apply, Lock}
 use Rattle.server_model.specs.declared.request.Request.TheVariants as requests
 use Rattle.server_model.specs.declared.entry.Asked.{Asked}
 use Rattle.server_model.specs.declared.entry.Asked.TheVariants.{Call}
-use Rattle.tool_state.specs.declared.log_read.LogRead.{LogRead}
+use Rattle.tool_state.specs.declared.feed_call.FeedCall.{FeedCall}
+use Rattle.tool_state.specs.declared.feed_call.FeedCall.TheVariants.{Free, Read, Start}
 
--- the read of the log that is asked
-abbrev pub read_in : Option Asked → Option LogRead
-read_in (Some (Call (requests.ReadLog position limit tables))) = Some (record { position = position; limit = limit })
-read_in asked = None
-
--- a chunk begins, or an attempt: the copier asks where a chunk ends, or the locker makes the sentry
-abbrev pub starts : Actor → Option Asked → Bool
-starts Copy (Some (Call (requests.ChunkEnd table low top size))) = true
-starts Lock (Some (Call (requests.Create schema))) = true
-starts actor asked = false
+-- what this is for the replica where this actor asks it: a chunk begins where the copier asks where one ends, and an attempt
+-- where the locker makes the sentry
+abbrev pub feed_call : Actor → Asked → FeedCall
+feed_call Apply (Call (requests.ReadLog position limit tables)) = Read position limit
+feed_call Copy (Call (requests.ChunkEnd table low top size)) = Start
+feed_call Lock (Call (requests.Create schema)) = Start
+feed_call actor asked = Free

@@ -5,7 +5,7 @@
 mod calls;
 mod causes;
 mod ending;
-mod log_read;
+mod feed_call;
 mod next_call;
 mod note_calls;
 mod short_checkpoints;
@@ -15,7 +15,7 @@ mod verdict_view;
 
 pub use causes::{new_column_name, old_places, verdict};
 pub use ending::is_over;
-pub use log_read::LogRead;
+pub use feed_call::FeedCall;
 pub use next_call::NextCall;
 pub use tool_view::ToolView;
 pub use verdict_view::{CauseView, KeyView, VerdictView};

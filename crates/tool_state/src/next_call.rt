@@ -1,17 +1,15 @@
 //! What an actor of the tool asks next: a small value, found without memory, of which the request is made.
 
 ghost use Rattle.std.specs.Prelude.{◌≡◌, Some, false, List, IfOk, OnErr};
-ghost use Rattle.base_script.specs.declared.actor.Actor.TheVariants.{Copy, Lock};
 ghost use Rattle.plan_data.specs.PlanData.{PlanData};
 ghost use Rattle.server_model.specs.declared.entry.Entry.{Entry};
 ghost use Rattle.server_model.specs.LostCalls.{lost_in};
 ghost use Rattle.tool_program.specs.FreeCalls.{is_freely_asked};
-ghost use Rattle.tool_program.specs.Tools as program;
-ghost use Rattle.tool_state.specs.Feeds.{read_in, starts};
+ghost use Rattle.tool_state.specs.Feeds.{feed_call};
 ghost use Rattle.tool_state.specs.NextCalls.{asked_in};
 ghost use Rattle.tool_state.specs.ToolState.Meanings.{work_of};
 
-use crate::log_read::LogRead;
+use crate::feed_call::FeedCall;
 use crate::note_calls::{note, note_lost};
 use crate::tool_state::Work;
 use base_script::Actor;
@@ -80,48 +78,23 @@ impl NextCall<'_> {
         }
     }
 
-    /// The read of the log that is asked; none where something else is.
-    #[tactic(auto, using(crate::proofs::FeedFacts::reads_log, crate::proofs::FeedFacts::applies, crate::proofs::FeedFacts::setup_reads, crate::proofs::FeedFacts::copier_reads, crate::proofs::FeedFacts::cutover_reads))]
-    pub fn read(self, work: &Work) -> Option<LogRead>
-        ensures { (plan : PlanData) (journal : List Entry) → result ≡ read_in (Some (asked_in plan journal (work_of work.now) self.entry)) }
+    /// What it is for a replica that lags, where this actor asks it.
+    #[tactic(auto, using(crate::proofs::FeedFacts::reads_log, crate::proofs::FeedFacts::applies, crate::proofs::FeedFacts::setup_reads, crate::proofs::FeedFacts::copier_reads, crate::proofs::FeedFacts::cutover_reads, crate::proofs::FeedFacts::setup_begins, crate::proofs::FeedFacts::applier_begins, crate::proofs::FeedFacts::cutover_begins, crate::proofs::FeedFacts::applier_makes, crate::proofs::FeedFacts::copier_makes))]
+    pub fn feed_call(self, actor: Actor, work: &Work) -> FeedCall
+        ensures { (plan : PlanData) (journal : List Entry) → result ≡ feed_call actor (asked_in plan journal (work_of work.now) self.entry) }
     {
         let applier = &work.applier;
-        match self {
-            NextCall::Apply if applier.starts() => Some(LogRead {
+        match (actor, self) {
+            (Actor::Apply, NextCall::Apply) if applier.starts() => FeedCall::Read {
                 position: applier.position,
                 limit: applier.batch,
-            }),
-            _ => None,
-        }
-    }
-
-    #[tactic(auto, using(crate::proofs::FeedFacts::setup_begins, crate::proofs::FeedFacts::applier_begins, crate::proofs::FeedFacts::cutover_begins))]
-    fn asks_end(self) -> bool
-        ensures { (plan : PlanData) (journal : List Entry) (work : program.Work) → result ≡ starts Copy (Some (asked_in plan journal work self.entry)) }
-    {
-        matches!(self, NextCall::Copy(CopyCall::End(_)))
-    }
-
-    #[tactic(auto, using(crate::proofs::FeedFacts::applier_makes, crate::proofs::FeedFacts::copier_makes))]
-    fn makes_table(self) -> bool
-        ensures { (plan : PlanData) (journal : List Entry) (work : program.Work) → result ≡ starts Lock (Some (asked_in plan journal work self.entry)) }
-    {
-        matches!(
-            self,
-            NextCall::CutOver(CutOverCall::MakeSentry)
-                | NextCall::Setup(Setup::MakingLog | Setup::MakingGhost)
-        )
-    }
-
-    /// Whether the actor begins a chunk with it, or an attempt to cut over: the copier asks where a chunk ends, or the locker makes
-    /// a table.
-    pub fn starts(self, actor: Actor) -> bool
-        ensures { (plan : PlanData) (journal : List Entry) (work : program.Work) → result ≡ starts actor (Some (asked_in plan journal work self.entry)) }
-    {
-        match actor {
-            Actor::Copy => self.asks_end(),
-            Actor::Lock => self.makes_table(),
-            _ => false,
+            },
+            (Actor::Copy, NextCall::Copy(CopyCall::End(_)))
+            | (Actor::Lock, NextCall::CutOver(CutOverCall::MakeSentry))
+            | (Actor::Lock, NextCall::Setup(Setup::MakingLog | Setup::MakingGhost)) => {
+                FeedCall::Start
+            }
+            _ => FeedCall::Free,
         }
     }
 }
