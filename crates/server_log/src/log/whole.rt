@@ -19,8 +19,8 @@ use std::alloc::{AllocError, Global};
 use std::cmp::max;
 use std::marker::Model;
 
-/// For how many bytes room is made at once: most transactions have an event or two, of some tens of bytes each.
-const LEAST_ROOM: usize = 1024;
+/// For how many bytes room is made at first, at least: most transactions have an event or two, of some tens of bytes each.
+const FIRST_ROOM: usize = 1024;
 
 /// The events of the committed transactions, as bytes in segments. How many of them are unread is known at once of the tables
 /// that it watches. Contracts see besides for how many more bytes it has room.
@@ -90,7 +90,11 @@ impl Log {
         if bytes <= self.spare {
             return Ok(());
         }
-        let room = max(bytes as usize, LEAST_ROOM);
+        let room = if self.events.len() == 0 {
+            max(bytes as usize, FIRST_ROOM)
+        } else {
+            bytes as usize
+        };
         let events = room / 8 + 1;
         self.events.reserve(room, events)?;
         self.segments.reserve(events)?;
