@@ -2,7 +2,7 @@
 use Rattle.std.proofs.Common.{◌≡◌, ◌≤◌, ℕ, ◌+◌, Bool, true, false, not, ◌&&◌, ◌||◌, List, [], ◌∷◌, ◌++◌, drop, length, Some, refl, sym, ap, ◌∙◌, append_assoc, append-nil}
 use Rattle.std.specs.Prelude.{◌==◌, fold}
 use Rattle.std.specs.List.{slice_get, list_any}
-use Rattle.std.proofs.Math.Bool.{and-false, and-true, or-false}
+use Rattle.std.proofs.Math.Bool.{and-false, and-true, or-false, or-true}
 use Rattle.std.proofs.Math.Path.{fun_ext}
 use Rattle.std.proofs.lemmas.List.{drop_all}
 use Rattle.std.proofs.lemmas.List.Sums.{fold-append}
@@ -10,6 +10,7 @@ use Rattle.base_script.specs.declared.actor.Actor.{Actor}
 use Rattle.server_model.specs.declared.entry.Entry.{Entry}
 use Rattle.plan_data.specs.PlanData.{PlanData}
 use Rattle.run_state.proofs.Clients.{left_here}
+use Rattle.tool_program.specs.Feeds.{is_held_back}
 use Rattle.tool_program.specs.Orders.{actors, caught_up, held_after, held_behind, Held, is_caught, is_ready, may_go_at, replica_length, risen}
 use Rattle.run_turns.proofs.Replicas.{none_held}
 
@@ -80,28 +81,38 @@ pub record Seeks (plan : PlanData) (journal : List Entry) (held place : ℕ) (so
   pub ready : (some || list_any (is_ready plan journal) (drop place (actors plan))) ≡ list_any (is_ready plan journal) (actors plan)
   pub goes : list_any (may_go_at plan journal held) (drop place (actors plan)) ≡ list_any (may_go_at plan journal held) (actors plan)
 
-module _ (plan : PlanData) (journal : List Entry) (held place : ℕ) (some : Bool) (seeks : Seeks plan journal held place some) where
-  -- one that may
-  pub one_goes : (actor : Actor) → slice_get (actors plan) place ≡ Some actor → may_go_at plan journal held actor ≡ true → false ≡ is_caught plan journal held
-  one_goes actor is goes =
-      sym (ap (λ (b : Bool). list_any (is_ready plan journal) (actors plan) && not b)
-      (sym seeks.goes ∙ any_here (may_go_at plan journal held) (actors plan) place actor is ∙ ap (λ (b : Bool). b || list_any (may_go_at plan journal held) (drop (place + 1) (actors plan))) goes)
-      ∙ and-false (list_any (is_ready plan journal) (actors plan)))
-
-  -- one that may not
-  pub one_stays : (actor : Actor) → slice_get (actors plan) place ≡ Some actor → may_go_at plan journal held actor ≡ false → (more : Bool) → more ≡ (some || is_ready plan journal actor) → Seeks plan journal held (place + 1) more
-  one_stays actor is stays more more_is = record {
+module _ (plan : PlanData) (journal : List Entry) (held place : ℕ) (some : Bool) (seeks : Seeks plan journal held place some) (actor : Actor) (is : slice_get (actors plan) place ≡ Some actor) where
+  stays : may_go_at plan journal held actor ≡ false → (more : Bool) → (some || is_ready plan journal actor) ≡ more → Seeks plan journal held (place + 1) more
+  stays not_goes more more_is = record {
     ready =
-        ap (λ (b : Bool). b || list_any (is_ready plan journal) (drop (place + 1) (actors plan))) more_is
+        ap (λ (b : Bool). b || list_any (is_ready plan journal) (drop (place + 1) (actors plan))) (sym more_is)
         ∙ or_moves some (is_ready plan journal actor) (list_any (is_ready plan journal) (drop (place + 1) (actors plan)))
         ∙ ap (λ (b : Bool). some || b) (sym (any_here (is_ready plan journal) (actors plan) place actor is))
         ∙ seeks.ready;
     goes =
-        sym (any_here (may_go_at plan journal held) (actors plan) place actor is ∙ ap (λ (b : Bool). b || list_any (may_go_at plan journal held) (drop (place + 1) (actors plan))) stays)
+        sym (any_here (may_go_at plan journal held) (actors plan) place actor is ∙ ap (λ (b : Bool). b || list_any (may_go_at plan journal held) (drop (place + 1) (actors plan))) not_goes)
         ∙ seeks.goes;
   }
 
-  -- nobody is left
+  -- one that is ready, and isn't held back
+  pub one_goes : is_ready plan journal actor ≡ true → is_held_back plan journal held actor ≡ false → false ≡ is_caught plan journal held
+  one_goes ready free =
+      let goes : may_go_at plan journal held actor ≡ true = ap (λ (b : Bool). b && not (is_held_back plan journal held actor)) ready ∙ ap not free in
+      sym (ap (λ (b : Bool). list_any (is_ready plan journal) (actors plan) && not b)
+      (sym seeks.goes ∙ any_here (may_go_at plan journal held) (actors plan) place actor is ∙ ap (λ (b : Bool). b || list_any (may_go_at plan journal held) (drop (place + 1) (actors plan))) goes)
+      ∙ and-false (list_any (is_ready plan journal) (actors plan)))
+
+  -- one that is ready and held back
+  pub one_is_held : is_ready plan journal actor ≡ true → is_held_back plan journal held actor ≡ true → Seeks plan journal held (place + 1) true
+  one_is_held ready back =
+      stays (ap (λ (b : Bool). b && not (is_held_back plan journal held actor)) ready ∙ ap not back) true (ap (λ (b : Bool). some || b) ready ∙ or-true some)
+
+  -- one that isn't ready
+  pub one_is_idle : is_ready plan journal actor ≡ false → Seeks plan journal held (place + 1) some
+  one_is_idle idle = stays (ap (λ (b : Bool). b && not (is_held_back plan journal held actor)) idle) some (ap (λ (b : Bool). some || b) idle ∙ or-false some)
+
+-- nobody is left
+module _ (plan : PlanData) (journal : List Entry) (held place : ℕ) (some : Bool) (seeks : Seeks plan journal held place some) where
   pub nobody_goes : length (actors plan) ≤ place → some ≡ is_caught plan journal held
   nobody_goes past =
       let ready : some ≡ list_any (is_ready plan journal) (actors plan) = sym (or-false some) ∙ ap (λ (b : Bool). some || b) (sym (any_spent (is_ready plan journal) (actors plan) place past)) ∙ seeks.ready in

@@ -1,11 +1,12 @@
 -- What a replica holds of the log, and whom it holds back, as the code counts it.
-use Rattle.std.proofs.Common.{◌≡◌, ◌≤◌, ℕ, ◌+◌, ◌-◌, Bool, true, false, cond, ◌&&◌, ◌⊎◌, inl, inr, List, drop, take, length, Option, Some, None, refl, sym, ap, ◌∙◌, subst, arith}
-use Rattle.std.specs.Prelude.{◌==◌, max, count_by}
+use Rattle.std.proofs.Common.{◌≡◌, ◌≤◌, ℕ, ◌+◌, ◌-◌, Bool, true, false, cond, List, drop, take, length, Option, Some, None, refl, sym, ap, ◌∙◌, arith}
+use Rattle.std.specs.Prelude.{◌==◌, is_some, max, count_by}
+use Rattle.std.specs.Option.{option_map}
 use Rattle.std.proofs.lemmas.List.{drop-drop}
 use Rattle.std.proofs.lemmas.List.Sums.{sum_by-take-drop}
 use Rattle.base_values.specs.declared.event.RowEvent.{RowEvent}
 use Rattle.base_script.specs.declared.actor.Actor.{Actor}
-use Rattle.base_script.specs.declared.actor.Actor.TheVariants.{Op, Insp, Copy, Apply, Lock, Ren, Client}
+use Rattle.base_script.specs.declared.actor.Actor.TheVariants.{Copy, Apply, Lock}
 use Rattle.server_model.specs.declared.request.Request.TheVariants as requests
 use Rattle.server_model.specs.declared.entry.Asked.{Asked}
 use Rattle.server_model.specs.declared.entry.Asked.TheVariants.{Call}
@@ -14,10 +15,12 @@ use Rattle.server_model.specs.States.{State, is_of, unread}
 use Rattle.plan_data.specs.PlanData.{PlanData}
 use Rattle.tool_program.specs.JournalWords.Journals.{state_at}
 use Rattle.tool_program.specs.Feeds.{events_between, holds_call, holds_read, is_held_back, lag, lags, read_tables}
+use Rattle.tool_program.specs.Orders.{is_ready}
 use Rattle.tool_program.specs.Programs.{given}
 use Rattle.proof_journals.specs.Run.Counts.{IsAfter}
-use Rattle.tool_state.specs.Feeds.{read_in, starts}
-use Rattle.tool_state.specs.declared.log_read.LogRead.{LogRead}
+use Rattle.tool_state.specs.Feeds.{feed_call}
+use Rattle.tool_state.specs.declared.feed_call.FeedCall.{FeedCall}
+use Rattle.tool_state.specs.declared.feed_call.FeedCall.TheVariants.{Free, Read, Start}
 use Rattle.run_turns.specs.declared.replica.Replica.{Replica}
 use Rattle.run_turns.specs.Replicas.{IsReplicaOf}
 
@@ -78,59 +81,47 @@ held_by plan journal held actor b is = ap (λ (c : Bool). cond c false (holds_ca
 pub none_held : (plan : PlanData) (journal : List Entry) (held : ℕ) (actor : Actor) → (plan.options.replica_step == 0) ≡ true → false ≡ is_held_back plan journal held actor
 none_held plan journal held actor none = sym (held_by plan journal held actor true none)
 
-module _ (plan : PlanData) (journal : List Entry) (held : ℕ) (some : (plan.options.replica_step == 0) ≡ false) where
-  -- the applier where it reads the log
-  read_by : (asked : Option Asked) (read : LogRead) → Some read ≡ read_in asked → holds_read plan (state_at plan journal) held read.position read.limit ≡ holds_call plan (state_at plan journal) held Apply asked
-  read_by (Some (Call (requests.ReadLog position limit tables))) read is =
-      let one : read ≡ record { position = position; limit = limit } = cc in ap (λ (r : LogRead). holds_read plan (state_at plan journal) held r.position r.limit) one
-  read_by asked read is = absurd (cc)
+-- as the code looks at a call
+abbrev held_in : PlanData → State → ℕ → Option FeedCall → Bool
+held_in plan state held (Some (Read position limit)) = holds_read plan state held position limit
+held_in plan state held (Some Start) = lags plan state held
+held_in plan state held call = false
 
-  pub read_held : (read : LogRead) → Some read ≡ read_in (given plan journal Apply) → holds_read plan (state_at plan journal) held read.position read.limit ≡ is_held_back plan journal held Apply
-  read_held read is = read_by (given plan journal Apply) read is ∙ sym (held_by plan journal held Apply false some)
+module _ (plan : PlanData) (state : State) (held : ℕ) where
+  held_as_asked : (actor : Actor) (asked : Asked) → held_in plan state held (Some (feed_call actor asked)) ≡ holds_call plan state held actor (Some asked)
+  held_as_asked Apply (Call (requests.ReadLog position limit tables)) = refl
+  held_as_asked Copy (Call (requests.ChunkEnd table low top size)) = refl
+  held_as_asked Lock (Call (requests.Create schema)) = refl
+  held_as_asked actor asked = refl
 
-  else_by : (asked : Option Asked) → None ≡ read_in asked → false ≡ holds_call plan (state_at plan journal) held Apply asked
-  else_by (Some (Call (requests.ReadLog position limit tables))) is = absurd (cc)
-  else_by asked is = refl
+  held_as_given : (actor : Actor) (asked : Option Asked) → held_in plan state held (option_map (feed_call actor) asked) ≡ holds_call plan state held actor asked
+  held_as_given actor (Some asked) = held_as_asked actor asked
+  held_as_given Copy None = refl
+  held_as_given Apply None = refl
+  held_as_given Lock None = refl
+  held_as_given actor None = refl
 
-  pub else_held : None ≡ read_in (given plan journal Apply) → false ≡ is_held_back plan journal held Apply
-  else_held is = else_by (given plan journal Apply) is ∙ sym (held_by plan journal held Apply false some)
+module _ (plan : PlanData) (journal : List Entry) (held : ℕ) (some : (plan.options.replica_step == 0) ≡ false) (actor : Actor) where
+  call_held : (call : Option FeedCall) → call ≡ option_map (feed_call actor) (given plan journal actor) → held_in plan (state_at plan journal) held call ≡ is_held_back plan journal held actor
+  call_held call is = ap (held_in plan (state_at plan journal) held) is ∙ held_as_given plan (state_at plan journal) held actor (given plan journal actor) ∙ sym (held_by plan journal held actor false some)
 
-  -- the copier and the locker where they begin a chunk, or an attempt
-  copy_by : (asked : Option Asked) → (starts Copy asked && lags plan (state_at plan journal) held) ≡ holds_call plan (state_at plan journal) held Copy asked
-  copy_by (Some (Call (requests.ChunkEnd table low top size))) = refl
-  copy_by asked = refl
+  pub read_held : (position limit : ℕ) → Some (Read position limit) ≡ option_map (feed_call actor) (given plan journal actor) → holds_read plan (state_at plan journal) held position limit ≡ is_held_back plan journal held actor
+  read_held position limit is = call_held (Some (Read position limit)) is
 
-  lock_by : (asked : Option Asked) → (starts Lock asked && lags plan (state_at plan journal) held) ≡ holds_call plan (state_at plan journal) held Lock asked
-  lock_by (Some (Call (requests.Create schema))) = refl
-  lock_by asked = refl
+  pub start_held : Some Start ≡ option_map (feed_call actor) (given plan journal actor) → lags plan (state_at plan journal) held ≡ is_held_back plan journal held actor
+  start_held is = call_held (Some Start) is
 
-  starting_by : (actor : Actor) → (actor ≡ Copy) ⊎ (actor ≡ Lock) → (starts actor (given plan journal actor) && lags plan (state_at plan journal) held) ≡ holds_call plan (state_at plan journal) held actor (given plan journal actor)
-  starting_by actor (inl is) = subst (λ (a : Actor). (starts a (given plan journal a) && lags plan (state_at plan journal) held) ≡ holds_call plan (state_at plan journal) held a (given plan journal a)) (sym is) (copy_by (given plan journal Copy))
-  starting_by actor (inr is) = subst (λ (a : Actor). (starts a (given plan journal a) && lags plan (state_at plan journal) held) ≡ holds_call plan (state_at plan journal) held a (given plan journal a)) (sym is) (lock_by (given plan journal Lock))
+  pub free_held : Some Free ≡ option_map (feed_call actor) (given plan journal actor) → false ≡ is_held_back plan journal held actor
+  free_held is = call_held (Some Free) is
 
-  pub starting_held : (actor : Actor) → (actor ≡ Copy) ⊎ (actor ≡ Lock) → (starts actor (given plan journal actor) && lags plan (state_at plan journal) held) ≡ is_held_back plan journal held actor
-  starting_held actor is = starting_by actor is ∙ sym (held_by plan journal held actor false some)
+  pub unasked_held : None ≡ option_map (feed_call actor) (given plan journal actor) → false ≡ is_held_back plan journal held actor
+  unasked_held is = call_held None is
 
--- of the operator, the inspector, the renamer and clients nobody ever is
-abbrev pub AreFree : Actor → Type 0
-AreFree Op = Unit {0}
-AreFree Insp = Unit {0}
-AreFree Ren = Unit {0}
-AreFree (Client client) = Unit {0}
-AreFree actor = ⊥
+-- WHO IS READY
 
-free_call : (plan : PlanData) (state : State) (held : ℕ) (actor : Actor) (asked : Option Asked) → AreFree actor → holds_call plan state held actor asked ≡ false
-free_call plan state held Op asked is = refl
-free_call plan state held Insp asked is = refl
-free_call plan state held Ren asked is = refl
-free_call plan state held (Client client) asked is = refl
-free_call plan state held Copy asked is = absurd is
-free_call plan state held Apply asked is = absurd is
-free_call plan state held Lock asked is = absurd is
+mapped_some : {A B : Type 0} (f : A → B) (one : Option A) → is_some (option_map f one) ≡ is_some one
+mapped_some f None = refl
+mapped_some f (Some x) = refl
 
-pub never_held : (plan : PlanData) (journal : List Entry) (held : ℕ) (actor : Actor) → AreFree actor → false ≡ is_held_back plan journal held actor
-never_held plan journal held actor is = by (plan.options.replica_step == 0) refl
-  where
-    by : (b : Bool) → (plan.options.replica_step == 0) ≡ b → false ≡ is_held_back plan journal held actor
-    by true so = none_held plan journal held actor so
-    by false so = sym (held_by plan journal held actor false so ∙ free_call plan (state_at plan journal) held actor (given plan journal actor) is)
+pub asks_ready : (plan : PlanData) (journal : List Entry) (actor : Actor) (call : Option FeedCall) → call ≡ option_map (feed_call actor) (given plan journal actor) → is_some call ≡ is_ready plan journal actor
+asks_ready plan journal actor call is = ap is_some is ∙ mapped_some (feed_call actor) (given plan journal actor)

@@ -1,10 +1,12 @@
 //! What a lagging replica holds of the log, and whom it holds back. Nothing here takes memory, but what it begins with.
 
-ghost use Rattle.std.specs.Prelude.{◌≡◌, ◌≤◌, [], ◌∷◌, IfOk};
-ghost use Rattle.base_values.specs.ToolNames.{log_name};
+ghost use Rattle.std.specs.Prelude.{◌≡◌, ◌≤◌, option_map, IfOk};
+ghost use Rattle.base_script.specs.declared.actor.Actor.{Actor};
 ghost use Rattle.tool_program.specs.Feeds.{events_between, holds_read, is_held_back, lags, read_tables};
 ghost use Rattle.tool_program.specs.JournalWords.Journals.{state_at};
 ghost use Rattle.tool_program.specs.Orders.{caught_up, is_caught, may_go_at, risen};
+ghost use Rattle.tool_program.specs.Programs.{given};
+ghost use Rattle.tool_state.specs.Feeds.{feed_call};
 ghost use Rattle.run_turns.specs.Replicas.{IsReplicaOf};
 
 use crate::actors::{actor_at, actor_count};
@@ -15,7 +17,7 @@ use plan_data::Plan;
 use server_api::Serve;
 use std::alloc::{AllocError, Global};
 use std::cmp::max;
-use tool_state::LogRead;
+use tool_state::FeedCall;
 
 /// How much of the log a replica holds, and the tables whose events are counted in it.
 #[derive(Drop)]
@@ -67,43 +69,54 @@ impl Replica {
 
     /// Whether a read of the log is held back: the replica holds neither all of the log nor a whole batch from the position on.
     #[tactic(auto, using(crate::proofs::Replicas::log_after))]
-    fn holds_read<V: Serve>(&self, run: &Run<'_, V>, read: LogRead) -> bool
+    fn holds_read<V: Serve>(&self, run: &Run<'_, V>, position: u64, limit: u32) -> bool
         requires { IsReplicaOf run.now.plan self.now }
-        ensures { result ≡ holds_read run.now.plan (state_at run.now.plan run.now.journal) self.now.held read.position read.limit }
+        ensures { result ≡ holds_read run.now.plan (state_at run.now.plan run.now.journal) self.now.held position limit }
     {
-        self.held != run.server().log_length()
-            && self.events_from(run, read.position) < u64::from(read.limit)
+        self.held != run.server().log_length() && self.events_from(run, position) < u64::from(limit)
     }
 
-    /// Whether the actor is held back.
-    #[tactic(auto, using(crate::proofs::Replicas::none_held, crate::proofs::Replicas::read_held, crate::proofs::Replicas::else_held, crate::proofs::Replicas::starting_held, crate::proofs::Replicas::never_held))]
-    pub(crate) fn is_held_back<V: Serve>(&self, run: &Run<'_, V>, actor: Actor) -> bool
+    /// Whether an actor's next call is held back; without a replica none is.
+    #[tactic(auto, using(crate::proofs::Replicas::none_held, crate::proofs::Replicas::read_held, crate::proofs::Replicas::start_held, crate::proofs::Replicas::free_held, crate::proofs::Replicas::unasked_held))]
+    fn holds<V: Serve>(&self, run: &Run<'_, V>, call: Option<FeedCall>) -> bool
         requires { IsReplicaOf run.now.plan self.now }
-        ensures { result ≡ is_held_back run.now.plan run.now.journal self.now.held actor }
+        ensures { (actor : Actor) → call ≡ option_map (feed_call actor) (given run.now.plan run.now.journal actor) → result ≡ is_held_back run.now.plan run.now.journal self.now.held actor }
     {
         if run.plan().options().replica_step == 0 {
             return false;
         }
-        match actor {
-            Actor::Apply => match run.reading() {
-                Some(read) => self.holds_read(run, read),
-                None => false,
-            },
-            Actor::Copy | Actor::Lock => run.starting(actor) && self.lags(run),
-            Actor::Op | Actor::Insp | Actor::Ren | Actor::Client(_) => false,
+        match call {
+            Some(FeedCall::Read { position, limit }) => self.holds_read(run, position, limit),
+            Some(FeedCall::Start) => self.lags(run),
+            Some(FeedCall::Free) | None => false,
         }
     }
 
+    /// Whether the actor is held back.
+    #[tactic(auto, using(crate::proofs::Replicas::none_held))]
+    pub(crate) fn is_held_back<V: Serve>(&self, run: &Run<'_, V>, actor: Actor) -> bool
+        requires { IsReplicaOf run.now.plan self.now }
+        ensures { result ≡ is_held_back run.now.plan run.now.journal self.now.held actor }
+    {
+        // Without a replica the actor doesn't have to be asked.
+        if run.plan().options().replica_step == 0 {
+            return false;
+        }
+        self.holds(run, run.feed_call(actor))
+    }
+
     /// Whether the actor may go: it is ready, and isn't held back.
+    #[tactic(auto, using(crate::proofs::Replicas::asks_ready))]
     pub(crate) fn may_go<V: Serve>(&self, run: &Run<'_, V>, actor: Actor) -> bool
         requires { IsReplicaOf run.now.plan self.now }
         ensures { result ≡ may_go_at run.now.plan run.now.journal self.now.held actor }
     {
-        run.ready(actor) && !self.is_held_back(run, actor)
+        let call = run.feed_call(actor);
+        call.is_some() && !self.holds(run, call)
     }
 
     /// Whether a catch-up is due: some actor is ready, and every ready actor is held back.
-    #[tactic(auto, using(crate::proofs::Holding::one_goes, crate::proofs::Holding::one_stays, crate::proofs::Holding::nobody_goes, crate::proofs::Holding::none_caught))]
+    #[tactic(auto, using(crate::proofs::Holding::nobody_goes, crate::proofs::Holding::none_caught))]
     fn is_caught<V: Serve>(&self, run: &Run<'_, V>) -> bool
         requires { IsReplicaOf run.now.plan self.now }
         ensures { result ≡ is_caught run.now.plan run.now.journal self.now.held }
@@ -114,11 +127,13 @@ impl Replica {
         }
         let mut is_someone_ready = false;
         for place in 0..actor_count(run) {
-            let actor = actor_at(run, place);
-            if self.may_go(run, actor) {
-                return false;
+            let call = run.feed_call(actor_at(run, place));
+            if call.is_some() {
+                if !self.holds(run, call) {
+                    return false;
+                }
+                is_someone_ready = true;
             }
-            is_someone_ready = is_someone_ready || run.ready(actor);
         }
         is_someone_ready
     }

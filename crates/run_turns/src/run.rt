@@ -1,23 +1,20 @@
 //! A run.
 
-ghost use Rattle.std.specs.Prelude.{◌≡◌, ◌≤◌, ◌+◌, ◌<◌, ◌^◌, [], length, is_some, Some, false, IfOk, OnOk, OnErr};
+ghost use Rattle.std.specs.Prelude.{◌≡◌, ◌≤◌, ◌+◌, ◌<◌, ◌^◌, [], length, is_some, option_map, false, IfOk};
 ghost use Rattle.std.specs.List.{list_any};
-ghost use Rattle.base_script.specs.declared.actor.Actor.TheVariants.{Apply};
 ghost use Rattle.tool_program.specs.JournalWords.Histories.{history, is_alter};
 ghost use Rattle.tool_program.specs.JournalWords.Journals.{opening, state_at, IsFaithful};
 ghost use Rattle.tool_program.specs.JournalWords.KeptPlans.{cut_due, KeepsPlan};
 ghost use Rattle.tool_program.specs.JournalWords.Sessions.{live_session, KeepsSessions};
-ghost use Rattle.tool_program.specs.Orders.{is_ready};
 ghost use Rattle.tool_program.specs.Programs.{given, waits, Follows};
 ghost use Rattle.tool_program.specs.Verdicts.{has_ended, verdict_of};
-ghost use Rattle.tool_state.specs.Feeds.{read_in, starts};
+ghost use Rattle.tool_state.specs.Feeds.{feed_call};
 ghost use Rattle.tool_state.specs.Verdicts.{verdict_meant};
 ghost use Rattle.proof_journals.specs.Machine.Runnable.{IsRunnable};
 ghost use Rattle.proof_journals.specs.Run.Counts.{IsAfter};
-ghost use Rattle.run_turns.specs.DueTurns.Due.{due, MayCost};
 ghost use Rattle.run_state.specs.Books.{IsRunState};
 ghost use Rattle.run_turns.specs.RunTurns.Invariants.{IsRun};
-ghost use Rattle.run_turns.specs.Runs.{is_over, TakesTurn, IsUnmoved, Steps};
+ghost use Rattle.run_turns.specs.Runs.{is_over, Steps};
 
 use crate::due::{next_turn, turn_of};
 use crate::renames::renames_of;
@@ -29,7 +26,7 @@ use server_api::Serve;
 use server_model::{Entry, Journal, Request};
 use std::alloc::{AllocError, Global};
 use std::marker::Model;
-use tool_state::{LogRead, VerdictView};
+use tool_state::{FeedCall, VerdictView};
 
 /// What became of a step.
 #[derive(Clone, Copy)]
@@ -103,28 +100,12 @@ impl<'a, V: Serve> Run<'a, V> {
         })
     }
 
-    /// Whether the actor is ready: something is given to it.
+    /// What the actor's next call is for a replica that lags; none where the actor isn't ready.
     #[tactic(auto, using(crate::proofs::Steps::after_moment))]
-    pub fn ready(&self, actor: Actor) -> bool
-        ensures { result ≡ is_ready self.now.plan self.now.journal actor }
+    pub fn feed_call(&self, actor: Actor) -> Option<FeedCall>
+        ensures { result ≡ option_map (feed_call actor) (given self.now.plan self.now.journal actor) }
     {
-        self.run_state.is_ready(&self.server, actor)
-    }
-
-    /// The read of the log that the applier asks next; none where it asks something else, or nothing.
-    #[tactic(auto, using(crate::proofs::Steps::after_moment))]
-    pub fn reading(&self) -> Option<LogRead>
-        ensures { result ≡ read_in (given self.now.plan self.now.journal Apply) }
-    {
-        self.run_state.reading(&self.server)
-    }
-
-    /// Whether the actor's next call begins a chunk, or an attempt to cut over.
-    #[tactic(auto, using(crate::proofs::Steps::after_moment))]
-    pub fn starting(&self, actor: Actor) -> bool
-        ensures { result ≡ starts actor (given self.now.plan self.now.journal actor) }
-    {
-        self.run_state.starting(&self.server, actor)
+        self.run_state.feed_call(&self.server, actor)
     }
 
     /// Whether the actor's request waits.

@@ -1,5 +1,0 @@
-use Rattle.run_turns.proofs.Steps.{after_moment}
-use Rattle.run_turns.proofs.run.Run.ready.Goals as goal
-
-pub is_ready-requires-clause-state : goal.is_ready-requires-clause-state
-is_ready-requires-clause-state g c = after_moment c.self.inside.run_state.plan.now c.self.inside.run_state.journal.items (g.V.Serve.state c.self.inside.server) c.self.invariant.0.server
