@@ -13,7 +13,6 @@ use Rattle.base_script.proofs.actor.Actor.TheSendSync as actor
 use Rattle.base_values.proofs.name.Name.TheSendSync as name
 use Rattle.base_values.proofs.sequence.Sequence.TheSendSync as sequence
 use Rattle.plan_data.proofs.plan.Plan.TheSendSync as plan
-use Rattle.tool_program.proofs.note_writer.notes.Notes.TheSendSync as notes
 use Rattle.tool_state.proofs.tool_state.tool.Tool.TheSendSync as tool
 use Rattle.run_actors.proofs.client_turns.actor_state.ClientState.TheSendSync as client
 use Rattle.run_actors.proofs.actor_state.ActorState.TheSendSync as actor_state
